@@ -1,0 +1,12 @@
+pub mod Changes
+pub mod Datagrams
+pub mod Spelling
+pub mod Injective
+pub mod Build
+mod Puts
+mod Places
+pub mod Spelled
+mod Kept
+mod Writes
+mod Chained
+mod Filled

@@ -1,0 +1,73 @@
+//! The bytes of a frame: its words, and where its datagrams begin.
+
+ghost use Rattle.std.specs.Prelude.{◌≡◌, ◌+◌, ◌≤◌, length, drop};
+ghost use Rattle.byteorder.specs.Endian.{little_number};
+ghost use Rattle.ecat_frame.specs.FrameGrammar.{word};
+ghost use Rattle.ecat_frame.specs.Changed.{put};
+ghost use Rattle.ecat_frame.specs.Reading.{data_length, place_in};
+
+use byteorder::{ByteOrder, LittleEndian};
+
+/// The most bytes that a frame has.
+pub const MAX_LENGTH: usize = 1514;
+
+/// Where the first datagram of a frame begins.
+pub(crate) const FIRST: usize = 16;
+
+/// The bytes of a datagram beside its data: ten before it, and the working counter.
+pub(crate) const OVERHEAD: usize = 12;
+
+/// The bit of a length word that says that another datagram follows.
+pub(crate) const MORE: u16 = 0x8000;
+
+// The fields of a datagram, from its first byte on.
+pub(crate) const ADP: usize = 2;
+
+pub(crate) const ADO: usize = 4;
+
+pub(crate) const LENGTH_WORD: usize = 6;
+
+pub(crate) const IRQ: usize = 8;
+
+pub(crate) const PAYLOAD: usize = 10;
+
+pub(crate) fn read_word(bytes: &[u8], at: usize) -> u16
+    requires { at + 2 ≤ length bytes.now }
+    ensures { result ≡ little_number 2 (drop at bytes.now) }
+{
+    LittleEndian::read_u16(&bytes[at..])
+}
+
+pub(crate) fn write_word(bytes: &mut [u8], at: usize, value: u16)
+    requires { at + 2 ≤ length bytes.old }
+    ensures { bytes.new ≡ put at (word value) bytes.old }
+{
+    LittleEndian::write_u16(&mut bytes[at..], value);
+}
+
+pub(crate) fn write_part(bytes: &mut [u8], at: usize, part: &[u8])
+    requires { at + length part.now ≤ length bytes.old }
+    ensures { bytes.new ≡ put at part.now bytes.old }
+{
+    bytes[at..at + part.len()].copy_from_slice(part);
+}
+
+/// The length of the data of the datagram that begins at this place.
+pub(crate) fn data_length(bytes: &[u8], at: usize) -> usize
+    requires { at + 8 ≤ length bytes.now }
+    ensures { result ≡ data_length (drop at bytes.now) }
+{
+    usize::from(read_word(bytes, at + LENGTH_WORD) & 0x07FF)
+}
+
+/// Where datagram k of a frame begins.
+pub(crate) fn place_of(bytes: &[u8], k: usize) -> usize
+    requires { 16 + place_in k (drop 16 bytes.now) + 8 ≤ length bytes.now }
+    ensures { result ≡ 16 + place_in k (drop 16 bytes.now) }
+{
+    let mut at = FIRST;
+    for _i in 0..k {
+        at += OVERHEAD + data_length(bytes, at);
+    }
+    at
+}

@@ -1,0 +1,128 @@
+ghost use Rattle.std.specs.Prelude.{◌≡◌, ◌+◌, ◌<◌, ◌≤◌, Some, slice_get, length, drop, IfSome};
+ghost use Rattle.ecat_frame.specs.FrameGrammar.{FrameValue, IsFrame, InGrammar, length_word_of, more, spelling};
+ghost use Rattle.ecat_frame.specs.Changed.{changed, put};
+ghost use Rattle.ecat_frame.specs.Reading.{seen};
+
+use crate::bytes::{ADP, MAX_LENGTH, PAYLOAD, data_length, place_of, write_part, write_word};
+use crate::datagram::Datagram;
+use std::marker::Model;
+
+/// A frame: two addresses, one or more datagrams, and padding, as ETG.1000.4 wants them (`IsFrame` of
+/// `specs/FrameGrammar.antt`).
+// Behind its bytes the array has zeros, so that equal frames are equal arrays.
+#[derive(Clone, Copy, Debug)]
+pub struct Frame {
+    pub(crate) bytes: [u8; MAX_LENGTH],
+    pub(crate) len: usize,
+    pub(crate) count: usize,
+}
+
+impl Model for Frame {
+    ghost use Rattle.ecat_frame.specs.FrameGrammar.{FrameValue};
+
+    ghost Value = { FrameValue };
+
+    ghost use Rattle.ecat_frame.specs.InsideFrame.{value_of, inside_of, IsKept, inside_of-value_of};
+
+    ghost view = { value_of };
+
+    ghost invariant = { IsKept };
+
+    ghost inverse = { inside_of };
+
+    ghost inverse_ok = { inside_of-value_of };
+}
+
+impl Frame {
+    ghost use Rattle.ecat_frame.specs.InsideFrame.{BeginsAt};
+
+    /// The bytes of the frame, with the padding.
+    pub fn bytes(&self) -> &[u8]
+        ensures bytes { result.now ≡ spelling self.now }
+        ensures valid { IsFrame self.now }
+        ensures grammar { InGrammar result.now }
+    {
+        &self.bytes[..self.len]
+    }
+
+    /// The number of datagrams.
+    pub fn count(&self) -> usize
+        ensures count { result ≡ length self.now.datagrams }
+        ensures some { 0 < result }
+        ensures few { result ≤ 124 }
+    {
+        self.count
+    }
+
+    /// Datagram k, counted from 0.
+    pub fn datagram(&self, k: usize) -> Datagram<'_>
+        requires { k < length self.now.datagrams }
+        ensures is { slice_get self.now.datagrams k ≡ Some (seen result) }
+        ensures length_word { result.length_word
+            ≡ length_word_of (more (drop (k + 1) self.now.datagrams)) (seen result) }
+        ensures valid { IsFrame self.now }
+    {
+        let at = self.place(k);
+        Datagram::read(&self.bytes[at..])
+    }
+
+    // Where datagram k begins.
+    fn place(&self, k: usize) -> usize
+        requires { k < length self.now.datagrams }
+        ensures { BeginsAt self.now k result }
+    {
+        place_of(&self.bytes, k)
+    }
+
+    /// Writes the ADP of datagram k.
+    pub fn set_adp(&mut self, k: usize, adp: u16)
+        requires { k < length self.old.datagrams }
+        ensures changed { self.new
+            ≡ changed k (λ d. record d { head = record d.head { adp = adp } }) self.old }
+        ensures count { length self.new.datagrams ≡ length self.old.datagrams }
+    {
+        let at = self.place(k);
+        write_word(&mut self.bytes, at + ADP, adp);
+    }
+
+    /// Writes the working counter of datagram k.
+    pub fn set_wkc(&mut self, k: usize, wkc: u16)
+        requires { k < length self.old.datagrams }
+        ensures changed { self.new ≡ changed k (λ d. record d { wkc = wkc }) self.old }
+        ensures count { length self.new.datagrams ≡ length self.old.datagrams }
+    {
+        let at = self.place(k);
+        let end = at + PAYLOAD + data_length(&self.bytes, at);
+        write_word(&mut self.bytes, end, wkc);
+    }
+
+    /// Writes the data of datagram k, whose length stays.
+    pub fn set_payload(&mut self, k: usize, payload: &[u8])
+        requires within { k < length self.old.datagrams }
+        requires same_length { IfSome (slice_get self.old.datagrams k)
+            (λ d. length payload.now ≡ length d.payload) }
+        ensures changed { self.new ≡ changed k (λ d. record d { payload = payload.now }) self.old }
+        ensures count { length self.new.datagrams ≡ length self.old.datagrams }
+    {
+        let at = self.place(k);
+        write_part(&mut self.bytes, at + PAYLOAD, payload);
+    }
+
+    /// Writes bytes into the data of datagram k, from place `at` of the data on.
+    pub fn set_bytes(&mut self, k: usize, at: usize, bytes: &[u8])
+        requires within { k < length self.old.datagrams }
+        requires inside { IfSome (slice_get self.old.datagrams k)
+            (λ d. at + length bytes.now ≤ length d.payload) }
+        ensures changed { self.new
+            ≡ changed k (λ d. record d { payload = put at bytes.now d.payload }) self.old }
+        ensures count { length self.new.datagrams ≡ length self.old.datagrams }
+    {
+        let start = self.place(k);
+        write_part(&mut self.bytes, start + PAYLOAD + at, bytes);
+    }
+}
+
+/// A law, with nothing to run: bytes that are those of two frames are those of one.
+pub fn bytes_determine_frame()
+    ensures { (f g : FrameValue) → IsFrame f → IsFrame g → spelling f ≡ spelling g → f ≡ g }
+{}

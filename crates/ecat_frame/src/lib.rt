@@ -1,0 +1,24 @@
+//! EtherCAT frames, as ETG.1000.4 lays them out in its section 5.3: an Ethernet frame of the type
+//! 0x88A4 whose data is a header word and one or more datagrams.
+//!
+//! A [`Builder`] takes datagrams and makes a [`Frame`] of them. A frame is a value of at most
+//! [`MAX_LENGTH`] bytes that takes no memory; whoever passes it on reads its datagrams and changes
+//! single fields of them, and it is a frame of the grammar all the while. Contracts see it as the
+//! record of its parts (`specs/FrameGrammar.antt`), and so a change of one field is the change of
+//! one field of that record. `spelling` says which bytes the parts are.
+#![tactic(auto)]
+
+mod builder;
+mod bytes;
+mod command;
+mod datagram;
+mod frame;
+
+pub use builder::{Builder, Full};
+pub use bytes::MAX_LENGTH;
+pub use command::Command;
+pub use datagram::{Datagram, Head};
+pub use frame::{Frame, bytes_determine_frame};
+
+#[cfg(test)]
+mod tests;
