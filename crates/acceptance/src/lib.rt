@@ -1,0 +1,12 @@
+//! The tests that cross crates: they call the top call over a source and a sink in memory.
+//!
+//! What they show is what no clause says: which numbers the table of a file has. The expected texts were worked out by hand from the
+//! delays of the slaves and the ticks of their clocks.
+#![tactic(auto)]
+
+#[cfg(test)]
+mod delays;
+#[cfg(test)]
+mod faults;
+#[cfg(test)]
+mod files;

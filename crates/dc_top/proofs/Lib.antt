@@ -1,0 +1,5 @@
+pub mod Members
+pub mod Rows
+pub mod Tables
+pub mod Words
+pub mod Requests

@@ -1,0 +1,21 @@
+//! The top call of the program `dc`: which words are a command, what a segment file means, commissioning over the wire, and what is
+//! written.
+//!
+//! [`dc_main`] works over any source and any sink, so all of it can be tested and proved without a file or a terminal. What goes in is
+//! bytes and what comes out is bytes and an [`Outcome`], whose status and line on standard error `dc_cli` hands on.
+//!
+//! Today one command is built, `delays`, for files that describe a line of 64-bit clocks (`specs/LineFile.antt`). The master's side,
+//! [`commission`](mod@commission), sends frames and reads replies, and knows no wire but by exchanging frames with it.
+#![tactic(auto)]
+
+mod commission;
+mod delay;
+mod json;
+mod line_file;
+mod outcome;
+mod request;
+mod table;
+mod top;
+
+pub use outcome::Outcome;
+pub use top::dc_main;

@@ -1,0 +1,61 @@
+ghost use Rattle.std.specs.Prelude.{◌≡◌};
+
+use std::fmt;
+
+/// How the program ends.
+#[derive(Clone, Copy, Debug, PartialEq, Eq)]
+pub enum Outcome {
+    /// All was read and written.
+    Done,
+    /// The input is not JSON.
+    BadText,
+    /// The source failed.
+    ReadFault,
+    /// The sink failed, and holds a front of the output.
+    WriteFault,
+    /// Memory ran out.
+    NoMemory,
+    /// The input has more than 16,777,216 bytes.
+    TooLong,
+    /// The command, or the file, is not served yet.
+    NotYet,
+}
+
+impl Outcome {
+    ghost use Rattle.dc_top.specs.Outcomes.{status_of};
+
+    /// The exit status of the process.
+    pub fn status(&self) -> u8
+        ensures { result ≡ status_of self.now }
+    {
+        match self {
+            Outcome::Done => 0,
+            Outcome::BadText => 3,
+            Outcome::ReadFault => 7,
+            Outcome::WriteFault => 8,
+            Outcome::NoMemory => 9,
+            Outcome::TooLong => 10,
+            Outcome::NotYet => 11,
+        }
+    }
+}
+
+/// The line on standard error, without its line feed; empty where all went well.
+impl fmt::Display for Outcome {
+    ghost use Rattle.std.specs.Prelude.{Some};
+    ghost use Rattle.dc_top.specs.Outcomes.{text_of};
+
+    ghost output = { λ o. Some (text_of o) };
+
+    fn fmt<W: fmt::Write>(&self, f: &mut fmt::Formatter<W>) -> fmt::Result {
+        match self {
+            Outcome::Done => Ok(()),
+            Outcome::BadText => write!(f, "dc: not JSON"),
+            Outcome::ReadFault => write!(f, "dc: read fault"),
+            Outcome::WriteFault => write!(f, "dc: write fault"),
+            Outcome::NoMemory => write!(f, "dc: no memory"),
+            Outcome::TooLong => write!(f, "dc: input too long"),
+            Outcome::NotYet => write!(f, "dc: not yet"),
+        }
+    }
+}
