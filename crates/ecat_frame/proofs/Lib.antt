@@ -10,3 +10,10 @@ mod Kept
 mod Writes
 mod Chained
 mod Filled
+pub mod Steps
+pub mod FrameRead
+pub mod Completions
+pub mod FrameInverse
+pub mod FaultFacts
+mod Scanned
+mod Counted

@@ -29,7 +29,7 @@ code_back Lrw = refl
 code_back Armw = refl
 code_back Frmw = refl
 
-code_of-lt : (c : Command) → code_of c < 15
+pub code_of-lt : (c : Command) → code_of c < 15
 code_of-lt Nop = omega arith
 code_of-lt Aprd = omega arith
 code_of-lt Apwr = omega arith
@@ -56,7 +56,7 @@ pub length-spelled : (m : ℕ) (d : DatagramValue) → length (spelled m d) ≡ 
 unfolding spelled
 length-spelled m d = omega (arith, length-append d.payload (word d.wkc))
 
-length_word-lt : (m : ℕ) (d : DatagramValue) → m < 2 → IsDatagram d → length_word_of m d < 2 ^ 16
+pub length_word-lt : (m : ℕ) (d : DatagramValue) → m < 2 → IsDatagram d → length_word_of m d < 2 ^ 16
 length_word-lt m d h w = omega (arith, w.flags, w.size)
 
 pub length_word-spelled : (m : ℕ) (d : DatagramValue) (xs : List ℕ) → m < 2 → IsDatagram d → little_number 2 (drop 6 (spelled m d ++ xs)) ≡ length_word_of m d

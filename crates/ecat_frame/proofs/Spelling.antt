@@ -14,7 +14,7 @@ pub spelling-append : (f : FrameValue) (xs : List ℕ) → spelling f ++ xs ≡ 
 unfolding spelling
 spelling-append f xs = simp append_assoc
 
-header_word-lt : (f : FrameValue) → IsFrame f → header_word f < 2 ^ 16
+pub header_word-lt : (f : FrameValue) → IsFrame f → header_word f < 2 ^ 16
 header_word-lt f w = omega (arith, w.reserved, w.most)
 
 pub header_word-mod : (f : FrameValue) → IsFrame f → header_word f % 2048 ≡ length (all_spelled f.datagrams)

@@ -5,3 +5,7 @@ pub mod Built
 pub mod Reading
 pub mod InsideBuilder
 pub mod InsideFrame
+pub mod Refusals
+pub mod Faults
+pub mod ErrorText
+pub mod InsideScan

@@ -2,7 +2,7 @@
 
 ghost use Rattle.std.specs.Prelude.{◌≡◌, ◌+◌, ◌≤◌, length, drop};
 ghost use Rattle.byteorder.specs.Endian.{little_number};
-ghost use Rattle.ecat_frame.specs.FrameGrammar.{word};
+ghost use Rattle.ecat_frame.specs.FrameGrammar.{FrameValue, InGrammar, IsFrame, spelling, word};
 ghost use Rattle.ecat_frame.specs.Changed.{put};
 ghost use Rattle.ecat_frame.specs.Reading.{data_length, place_in};
 
@@ -19,6 +19,12 @@ pub(crate) const OVERHEAD: usize = 12;
 
 /// The bit of a length word that says that another datagram follows.
 pub(crate) const MORE: u16 = 0x8000;
+
+/// The bits of a length word or of the header word that are a length.
+pub(crate) const LENGTH_BITS: u16 = 0x07FF;
+
+/// Where the header word of a frame stands.
+pub(crate) const HEADER: usize = 14;
 
 // The fields of a datagram, from its first byte on.
 pub(crate) const ADP: usize = 2;
@@ -57,7 +63,7 @@ pub(crate) fn data_length(bytes: &[u8], at: usize) -> usize
     requires { at + 8 ≤ length bytes.now }
     ensures { result ≡ data_length (drop at bytes.now) }
 {
-    usize::from(read_word(bytes, at + LENGTH_WORD) & 0x07FF)
+    usize::from(read_word(bytes, at + LENGTH_WORD) & LENGTH_BITS)
 }
 
 /// Where datagram k of a frame begins.
@@ -70,4 +76,19 @@ pub(crate) fn place_of(bytes: &[u8], k: usize) -> usize
         at += OVERHEAD + data_length(bytes, at);
     }
     at
+}
+
+/// The number of datagrams in the bytes of a frame.
+pub(crate) fn datagrams_in(bytes: &[u8]) -> usize
+    requires { InGrammar bytes.now }
+    ensures { (f : FrameValue) → IsFrame f → bytes.now ≡ spelling f → result ≡ length f.datagrams }
+{
+    let end = FIRST + usize::from(read_word(bytes, HEADER) & LENGTH_BITS);
+    let mut at = FIRST;
+    let mut count = 0;
+    while at < end {
+        at += OVERHEAD + data_length(bytes, at);
+        count += 1;
+    }
+    count
 }

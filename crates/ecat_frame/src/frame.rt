@@ -1,10 +1,16 @@
-ghost use Rattle.std.specs.Prelude.{◌≡◌, ◌+◌, ◌<◌, ◌≤◌, Some, slice_get, length, drop, IfSome};
+ghost use Rattle.std.specs.Prelude.{◌≡◌, ◌+◌, ◌<◌, ◌≤◌, Some, slice_get, length, drop, IfSome, IfOk, IfErr, IsOk, Ok, Err};
+ghost use Rattle.ecat_frame.specs.Faults.{IsFault};
+ghost use Rattle.ecat_frame.specs.declared.error.FrameError.{FrameError};
 ghost use Rattle.ecat_frame.specs.FrameGrammar.{FrameValue, IsFrame, InGrammar, length_word_of, more, spelling};
 ghost use Rattle.ecat_frame.specs.Changed.{changed, put};
 ghost use Rattle.ecat_frame.specs.Reading.{seen};
 
-use crate::bytes::{ADP, MAX_LENGTH, PAYLOAD, data_length, place_of, write_part, write_word};
+use crate::bytes::{
+    ADP, MAX_LENGTH, PAYLOAD, data_length, datagrams_in, place_of, write_part, write_word,
+};
 use crate::datagram::Datagram;
+use crate::error::FrameError;
+use crate::scan::check;
 use std::marker::Model;
 
 /// A frame: two addresses, one or more datagrams, and padding, as ETG.1000.4 wants them (`IsFrame` of
@@ -35,6 +41,35 @@ impl Model for Frame {
 
 impl Frame {
     ghost use Rattle.ecat_frame.specs.InsideFrame.{BeginsAt};
+
+    /// The frame that these bytes are. Padding may be missing; there is at most as much of it as makes
+    /// the frame 60 bytes. Each error comes exactly where `IsFault` of `specs/Faults.antt` says so.
+    pub fn from_bytes(bytes: &[u8]) -> Result<Frame, FrameError>
+        ensures ok { IfOk result (λ f. spelling f ≡ bytes.now) }
+        ensures valid { IfOk result (λ f. IsFrame f) }
+        ensures only { InGrammar bytes.now → IsOk result }
+        ensures reads_back { (f : FrameValue) → IsFrame f → spelling f ≡ bytes.now → result ≡ Ok f }
+        ensures fault { IfErr result (IsFault bytes.now) }
+        ensures exactly { (e : FrameError) → IsFault bytes.now e → result ≡ Err e }
+    {
+        check(bytes)?;
+        Ok(Frame::keep(bytes))
+    }
+
+    // The frame in its array.
+    fn keep(bytes: &[u8]) -> Frame
+        requires { InGrammar bytes.now }
+        ensures spelling { spelling result ≡ bytes.now }
+        ensures valid { IsFrame result }
+    {
+        let mut kept = [0; MAX_LENGTH];
+        write_part(&mut kept, 0, bytes);
+        Frame {
+            bytes: kept,
+            len: bytes.len(),
+            count: datagrams_in(bytes),
+        }
+    }
 
     /// The bytes of the frame, with the padding.
     pub fn bytes(&self) -> &[u8]

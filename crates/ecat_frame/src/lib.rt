@@ -6,18 +6,25 @@
 //! single fields of them, and it is a frame of the grammar all the while. Contracts see it as the
 //! record of its parts (`specs/FrameGrammar.antt`), and so a change of one field is the change of
 //! one field of that record. `spelling` says which bytes the parts are.
+//!
+//! Bytes from outside become a frame by [`Frame::from_bytes`], or are refused at the first byte after
+//! which no frame can follow ([`FrameError`], `specs/Faults.antt`, `specs/Refusals.antt`).
 #![tactic(auto)]
 
 mod builder;
 mod bytes;
 mod command;
 mod datagram;
+mod error;
 mod frame;
+mod place;
+mod scan;
 
 pub use builder::{Builder, Full};
 pub use bytes::MAX_LENGTH;
 pub use command::Command;
 pub use datagram::{Datagram, Head};
+pub use error::FrameError;
 pub use frame::{Frame, bytes_determine_frame};
 
 #[cfg(test)]

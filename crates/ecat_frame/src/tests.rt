@@ -1,6 +1,6 @@
 //! Frames whose bytes were worked out by hand from the layout of ETG.1000.4.
 
-use super::{Builder, Command, Full, Head};
+use super::{Builder, Command, Frame, FrameError, Full, Head};
 
 #[test]
 fn a_drift_frame_as_it_comes_back(rt: HostRuntime) {
@@ -101,4 +101,109 @@ fn full_at_the_limit(rt: HostRuntime) {
     let frame = builder.finish();
     assert_eq!(rt; frame.bytes().len(), 1514);
     assert_eq!(rt; frame.datagram(0).payload, &data[..1486]);
+}
+
+/// Two addresses, with which each frame below begins.
+const ADDRESSES: [u8; 12] = [
+    0xff, 0xff, 0xff, 0xff, 0xff, 0xff, 0x02, 0x00, 0x00, 0x00, 0x00, 0x01,
+];
+
+/// What stands behind them in a frame with one datagram, up to its padding.
+const DRIFT: [u8; 20] = [
+    0x88, 0xa4, 0x10, 0x10, 0x0e, 0x00, 0x01, 0x10, 0x10, 0x09, 0x04, 0x00, 0x00, 0x00, 0x78, 0x56,
+    0x34, 0x12, 0x02, 0x00,
+];
+
+#[test]
+fn refused_frames(rt: HostRuntime) {
+    // Twelve bytes of datagrams, and one more byte of padding than may follow.
+    let mut long = [0; 49];
+    long[..4].copy_from_slice(&[0x88, 0xa4, 0x0c, 0x10]);
+    let rows: [(&[u8], FrameError, &str); 12] = [
+        (&[0x88, 0xa5], FrameError::EtherType(13), "ethertype at 13"),
+        (
+            &[0x88, 0xa4, 0x0c, 0x20],
+            FrameError::FrameType(15),
+            "type at 15",
+        ),
+        (
+            &[0x88, 0xa4, 0x0b, 0x10],
+            FrameError::Length(15),
+            "length at 15",
+        ),
+        (
+            &[0x88, 0xa4, 0xdb, 0x15],
+            FrameError::Length(15),
+            "length at 15",
+        ),
+        (
+            &[0x88, 0xa4, 0x0c, 0x10, 0x0f],
+            FrameError::Command(16),
+            "command at 16",
+        ),
+        (
+            &[0x88, 0xa4, 0x0c, 0x10, 0, 0, 0, 0, 0, 0, 1, 0],
+            FrameError::Length(22),
+            "length at 22",
+        ),
+        (
+            &[0x88, 0xa4, 0x0c, 0x10, 0, 0, 0, 0, 0, 0, 0, 1],
+            FrameError::Length(23),
+            "length at 23",
+        ),
+        (
+            &[0x88, 0xa4, 0x0c, 0x10, 0, 0, 0, 0, 0, 0, 0, 0x80],
+            FrameError::More(23),
+            "more at 23",
+        ),
+        (
+            &[0x88, 0xa4, 0x11, 0x10, 0x0e, 0, 1, 0x10, 0x10, 9, 4, 0],
+            FrameError::More(22),
+            "more at 22",
+        ),
+        (&long, FrameError::TooLong(60), "too long at 60"),
+        (&DRIFT[..19], FrameError::Short(31), "short at 31"),
+        (&[], FrameError::Short(12), "short at 12"),
+    ];
+    for (tail, error, text) in rows {
+        assert!(rt; tail.len() <= 68);
+        let end = 12 + tail.len();
+        let mut bytes = [0; 80];
+        bytes[..12].copy_from_slice(&ADDRESSES);
+        bytes[12..end].copy_from_slice(tail);
+        assert_eq!(rt; Frame::from_bytes(&bytes[..end]).err(), Some(error));
+        let written = format!(in rt.alloc(); "{error}").expect(&rt, "memory for the text");
+        assert_eq!(rt; written.as_str(), text);
+    }
+}
+
+#[test]
+fn a_frame_that_was_read(rt: HostRuntime) {
+    let mut bytes = [0; 60];
+    bytes[..12].copy_from_slice(&ADDRESSES);
+    bytes[12..32].copy_from_slice(&DRIFT);
+    let Ok(frame) = Frame::from_bytes(&bytes) else {
+        panic!(rt; "refused")
+    };
+    assert_eq!(rt; frame.bytes(), bytes.as_slice());
+    assert_eq!(rt; frame.count(), 1);
+    assert_eq!(rt; frame.datagram(0).head.command, Command::Frmw);
+    assert_eq!(rt;
+        frame.datagram(0).payload,
+        [0x78, 0x56, 0x34, 0x12].as_slice()
+    );
+}
+
+#[test]
+fn a_frame_without_padding(rt: HostRuntime) {
+    let mut bytes = [0; 28];
+    bytes[..12].copy_from_slice(&ADDRESSES);
+    bytes[12..16].copy_from_slice(&[0x88, 0xa4, 0x0c, 0x10]);
+    let Ok(frame) = Frame::from_bytes(&bytes) else {
+        panic!(rt; "refused")
+    };
+    assert_eq!(rt; frame.bytes().len(), 28);
+    assert_eq!(rt; frame.count(), 1);
+    assert_eq!(rt; frame.datagram(0).head.command, Command::Nop);
+    assert_eq!(rt; frame.datagram(0).payload.len(), 0);
 }
