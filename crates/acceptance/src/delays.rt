@@ -41,8 +41,7 @@ fn the_delays_of_a_line_are_written(rt: HostRuntime) -> Result<(), Fail> {
 fn what_is_not_built_is_not_served_yet(rt: HostRuntime) -> Result<(), Fail> {
     let alloc = rt.alloc();
     for (word, file) in [
-        ("run", TWO_SLAVES),
-        ("", TWO_SLAVES),
+        ("check", TWO_SLAVES),
         ("delays", OTHER_PORT),
         ("delays", SHIFTED),
         ("delays", "[]"),
@@ -53,6 +52,25 @@ fn what_is_not_built_is_not_served_yet(rt: HostRuntime) -> Result<(), Fail> {
         let outcome = dc_main(alloc, &words, &mut input, &mut output);
         assert_eq!(rt; outcome, Outcome::NotYet, "{word} {file}");
         assert!(rt; output.bytes().is_empty());
+    }
+    Ok(())
+}
+
+// Words that are no command; the source would fail at its first read, and is not read.
+#[test]
+fn wrong_words_are_refused_unread(rt: HostRuntime) -> Result<(), Fail> {
+    let alloc = rt.alloc();
+    for line in ["drill 0 7", "gen 1", "run --edge", "", "delays now", "gen 01 7"] {
+        let mut words = Vec::new(alloc);
+        for word in line.split_whitespace() {
+            words.push(word.to_string(alloc)?)?;
+        }
+        let mut input = MemSource::new(Vec::new(alloc), 1, vec![in alloc; 1]?);
+        let mut output = MemSink::new(alloc, 0, 1, Vec::new(alloc))?;
+        let outcome = dc_main(alloc, &words, &mut input, &mut output);
+        assert_eq!(rt; outcome, Outcome::Usage, "{line}");
+        assert_eq!(rt; outcome.status(), 2);
+        assert_eq!(rt; input.faults(), 0);
     }
     Ok(())
 }

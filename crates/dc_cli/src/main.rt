@@ -19,7 +19,7 @@ fn main(rt: HostRuntime) -> ExitCode {
         }
         Err(error) if error.kind() == ErrorKind::OutOfMemory => Outcome::NoMemory,
         // A word that is not UTF-8 is no command.
-        Err(_) => Outcome::NotYet,
+        Err(_) => Outcome::Usage,
     };
     if outcome != Outcome::Done {
         // Where standard error fails too, the status still tells.

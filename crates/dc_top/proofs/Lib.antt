@@ -1,5 +1,6 @@
 pub mod Members
 pub mod Rows
 pub mod Tables
-pub mod Words
 pub mod Requests
+pub mod Numerals
+pub mod Sorting

@@ -1,17 +1,26 @@
 -- What each answer of the top call says of the words, of the bytes that were read, and of those that were written.
-use Rattle.std.specs.Prelude.{◌≡◌, ◌≤◌, ◌⊎◌, ℕ, List, [], ◌∷◌, length, Option, Some, None, codes, ⊤, IsUtf8}
+use Rattle.std.specs.Prelude.{◌≡◌, ◌≢◌, ◌≤◌, ◌⊎◌, ℕ, List, [], ◌∷◌, length, Option, Some, None, ⊤, IsUtf8}
 use Rattle.std.specs.Io.KnownBytes.{Appends, Keeps}
 use Rattle.serde_json.specs.Data.{Data}
 use Rattle.serde_json.specs.Read.{read}
 use Rattle.dc_base.specs.Told.{AppendsFront, HasMore}
 use Rattle.dc_top.specs.LineFile.{LineValue, line_in}
 use Rattle.dc_top.specs.Table.{IsTableOf}
+use Rattle.dc_top.specs.Words.{task_of}
+use Rattle.dc_top.specs.declared.words.Task.{Task}
+use Rattle.dc_top.specs.declared.words.Task.TheVariants.{Delays}
 use Rattle.dc_top.specs.declared.outcome.Outcome.{Outcome}
-use Rattle.dc_top.specs.declared.outcome.Outcome.TheVariants.{Done, BadText, ReadFault, WriteFault, NoMemory, TooLong, NotYet}
+use Rattle.dc_top.specs.declared.outcome.Outcome.TheVariants.{Done, Usage, BadText, ReadFault, WriteFault, NoMemory, TooLong, NotYet}
 
 -- the one command that is built
 abbrev pub IsDelays : List (List ℕ) → Type 0
-IsDelays words = words ≡ codes "delays" ∷ []
+IsDelays words = task_of words ≡ Some Delays
+
+-- another command
+pub record IsOtherCommand (words : List (List ℕ)) : Type 0 where
+  pub task : Task
+  pub task_is : task_of words ≡ Some task
+  pub other : task ≢ Delays
 
 -- the greatest length of an input
 abbrev pub input_limit : ℕ
@@ -45,6 +54,7 @@ Served NotYet bytes taken taken' = IsOtherText bytes × Keeps taken taken'
 Served NoMemory bytes taken taken' = Keeps taken taken'
 Served ReadFault bytes taken taken' = ⊥
 Served TooLong bytes taken taken' = ⊥
+Served Usage bytes taken taken' = ⊥
 
 -- where the source tells its bytes: all were read, and they were served so
 abbrev pub OverInput : Outcome → Option (List ℕ) → Option (List ℕ) → Option (List ℕ) → Option (List ℕ) → Type 0
@@ -58,5 +68,6 @@ Answered BadText words left left' taken taken' = IsDelays words × OverInput Bad
 Answered ReadFault words left left' taken taken' = IsDelays words × Keeps taken taken'
 Answered TooLong words left left' taken taken' = IsDelays words × HasMore left input_limit × Keeps taken taken'
 Answered NoMemory words left left' taken taken' = IsDelays words × Keeps taken taken'
--- other words, and then nothing is read, or another file
-Answered NotYet words left left' taken taken' = ((IsDelays words → ⊥) × Keeps left left' ⊎ IsDelays words × OverInput NotYet left left' taken taken') × Keeps taken taken'
+Answered Usage words left left' taken taken' = (task_of words ≡ None) × Keeps left left' × Keeps taken taken'
+-- another command, and then nothing is read, or another file
+Answered NotYet words left left' taken taken' = (IsOtherCommand words × Keeps left left' ⊎ IsDelays words × OverInput NotYet left left' taken taken') × Keeps taken taken'

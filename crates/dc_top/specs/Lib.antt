@@ -5,3 +5,4 @@ pub mod Table
 pub mod LineDelays
 pub mod Outcomes
 pub mod Answers
+pub mod Words

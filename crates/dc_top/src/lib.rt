@@ -16,6 +16,7 @@ mod outcome;
 mod request;
 mod table;
 mod top;
+mod words;
 
 pub use outcome::Outcome;
 pub use top::dc_main;

@@ -7,6 +7,8 @@ use std::fmt;
 pub enum Outcome {
     /// All was read and written.
     Done,
+    /// The words are no command.
+    Usage,
     /// The input is not JSON.
     BadText,
     /// The source failed.
@@ -30,6 +32,7 @@ impl Outcome {
     {
         match self {
             Outcome::Done => 0,
+            Outcome::Usage => 2,
             Outcome::BadText => 3,
             Outcome::ReadFault => 7,
             Outcome::WriteFault => 8,
@@ -50,6 +53,7 @@ impl fmt::Display for Outcome {
     fn fmt<W: fmt::Write>(&self, f: &mut fmt::Formatter<W>) -> fmt::Result {
         match self {
             Outcome::Done => Ok(()),
+            Outcome::Usage => write!(f, "dc: usage"),
             Outcome::BadText => write!(f, "dc: not JSON"),
             Outcome::ReadFault => write!(f, "dc: read fault"),
             Outcome::WriteFault => write!(f, "dc: write fault"),

@@ -11,6 +11,7 @@ use crate::Outcome;
 use crate::commission::commission;
 use crate::line_file::{LineFile, line_in};
 use crate::table::table;
+use crate::words::{Task, task_of};
 use dc_base::{NoMemory, ReadAllError, Sink, Source, read_all, write_whole};
 use serde_json::Value;
 use std::alloc::Global;
@@ -21,8 +22,9 @@ const INPUT_LIMIT: usize = 16_777_216;
 
 /// Runs the command of the words: `delays` reads a segment file from the source and writes its delay table to the sink.
 ///
-/// Other words, and files that are JSON but describe no line, are answered by `NotYet`; for other words nothing is read.
-/// The source is read to its end before anything is judged, and nothing is written before all is known.
+/// Words that are no command are answered by `Usage`. The other commands, and files that are JSON but describe no line, are answered by
+/// `NotYet`. For other words than `delays` nothing is read. The source is read to its end before anything is judged, and nothing is
+/// written before all is known.
 pub fn dc_main<I: Source, O: Sink>(
     alloc: Global,
     words: &[String],
@@ -36,23 +38,16 @@ pub fn dc_main<I: Source, O: Sink>(
     ensures read_fault { result ≡ ReadFault → Rose (I.faults input.old) (I.faults input.new) }
     ensures write_fault { result ≡ WriteFault → Rose (O.faults output.old) (O.faults output.new) }
 {
-    if !is_delays(words) {
-        return Outcome::NotYet;
+    match task_of(words) {
+        None => return Outcome::Usage,
+        Some(Task::Delays) => {}
+        Some(_) => return Outcome::NotYet,
     }
     match read_all(alloc, input, INPUT_LIMIT) {
         Ok(bytes) => serve(alloc, &bytes, output),
         Err(ReadAllError::ReadFault) => Outcome::ReadFault,
         Err(ReadAllError::TooLong) => Outcome::TooLong,
         Err(ReadAllError::NoMemory) => Outcome::NoMemory,
-    }
-}
-
-fn is_delays(words: &[String]) -> bool
-    ensures { IsTrue result ↔ IsDelays (map string_bytes words.now) }
-{
-    match words {
-        [word] => word.as_str() == "delays",
-        _ => false,
     }
 }
 
