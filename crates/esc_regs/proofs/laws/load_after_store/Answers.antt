@@ -1,0 +1,5 @@
+use Rattle.esc_regs.proofs.Places.{number_again}
+use Rattle.esc_regs.proofs.laws.load_after_store.Goals as goal
+
+pub returns : goal.returns
+returns c = number_again

@@ -1,0 +1,5 @@
+use Rattle.esc_regs.proofs.Places.{apart}
+use Rattle.esc_regs.proofs.laws.store_leaves_others.Goals as goal
+
+pub returns : goal.returns
+returns c = apart

@@ -1,0 +1,8 @@
+use Rattle.esc_regs.proofs.Zeros.{zeros_of_none, zero_of}
+use Rattle.esc_regs.proofs.register_file.RegFile.blank.Goals as goal
+
+pub invariant_of-result : goal.invariant_of-result
+invariant_of-result c = zeros_of_none c.args.kind 4096
+
+pub returns-clause-blank : goal.returns-clause-blank
+returns-clause-blank c = zero_of 4096

@@ -1,0 +1,4 @@
+pub mod RegisterBytes
+pub mod RegisterTable
+pub mod RegisterAccess
+pub mod RegisterFile

@@ -1,0 +1,133 @@
+ghost use Rattle.std.specs.Prelude.{◌≡◌, ℕ, ◌+◌, ◌^◌, ◌<◌, IsTrue, ◌↔◌, length, slice_index, slice_range, Some, None, true, false};
+ghost use Rattle.std.specs.Option.{is_some};
+ghost use Rattle.esc_regs.specs.RegisterBytes.{number_at, with_number, AreApart};
+ghost use Rattle.esc_regs.specs.RegisterTable.{is_register, is_wide, is_defined};
+ghost use Rattle.esc_regs.specs.RegisterAccess.{is_refused, latches, received_by, rate_by, activation_by, Stores};
+ghost use Rattle.esc_regs.specs.RegisterFile.{IsWhole, StartsBy};
+
+use crate::answers::{Access, Written};
+use crate::clock_kind::ClockKind;
+use crate::names::{Controller, Features, FilterDepth1, FilterDepth2, SpeedStart};
+use crate::reg_word::RegWord;
+use crate::register::Reg;
+use crate::rules::{self, SIZE};
+use std::marker::Model;
+
+/// The bytes 0x0000 to 0x0FFF of a slave's registers. Those that belong to no register are 0, the
+/// upper half of an 8-byte register among them where the slave's clock does not have 64 bits.
+#[derive(Clone, Copy)]
+pub struct RegFile {
+    kind: ClockKind,
+    bytes: [u8; SIZE],
+}
+
+impl Model for RegFile {
+    ghost use Rattle.esc_regs.specs.RegisterFile.{Registers, HasZeros};
+
+    ghost Value = { Registers };
+
+    ghost view = { λ r. record { kind = r.kind; bytes = r.bytes } };
+
+    ghost invariant = { λ r. HasZeros r.kind r.bytes };
+
+    ghost inverse = { λ r. record { kind = r.kind; bytes = r.bytes } };
+}
+
+impl RegFile {
+    fn blank(kind: ClockKind) -> Self
+        ensures kind { result.kind ≡ kind }
+        ensures blank { (a : ℕ) → slice_index result.bytes a ≡ 0 }
+        ensures size { length result.bytes ≡ 4096 }
+    {
+        RegFile {
+            kind,
+            bytes: [0; SIZE],
+        }
+    }
+
+    /// The registers of a slave of this kind before its first frame. What the topology and the clock
+    /// make of them, as the DL status, is 0 until it is set.
+    pub fn new(kind: ClockKind) -> Self
+        ensures kind { result.kind ≡ kind }
+        ensures start { StartsBy kind result.bytes }
+        ensures whole { IsWhole result }
+    {
+        let mut file = RegFile::blank(kind);
+        file.set(Controller::new(), 0x11);
+        file.set(Features::new(), rules::features(kind));
+        file.set(SpeedStart::new(), 0x1000);
+        file.set(FilterDepth1::new(), 4);
+        file.set(FilterDepth2::new(), 12);
+        file
+    }
+
+    /// Fills `out` with the bytes from `addr` on, as a frame reads them. A refused read leaves it.
+    pub fn read(&self, addr: u16, out: &mut [u8]) -> Access
+        ensures refused { result ≡ Access.Refused ↔ (is_refused self.now.kind addr (length out.old) ≡ true) }
+        ensures bytes { result ≡ Access.Done → out.new ≡ slice_range self.now.bytes addr (addr + length out.old) }
+        ensures zeros { (k : ℕ) → result ≡ Access.Done → k < length out.old → is_defined self.now.kind (addr + k) ≡ false → slice_index out.new k ≡ 0 }
+        ensures stays { result ≡ Access.Refused → out.new ≡ out.old }
+    {
+        let start = usize::from(addr);
+        if rules::is_refused(self.kind, start, out.len()) {
+            return Access::Refused;
+        }
+        out.copy_from_slice(&self.bytes[start..start + out.len()]);
+        Access::Done
+    }
+
+    /// Stores the bytes from `addr` on, as a frame writes them, and tells what the slave has to do.
+    /// Bytes of registers that cannot be written, and of none, are ignored.
+    pub fn write(&mut self, addr: u16, bytes: &[u8]) -> Written
+        ensures refused { result.access ≡ Access.Refused ↔ (is_refused self.old.kind addr (length bytes.now) ≡ true) }
+        ensures stays { result.access ≡ Access.Refused → self.new ≡ self.old }
+        ensures silent { result.access ≡ Access.Refused → result ≡ record { access = Access.Refused; latched = false; received = None; rate = None; activation = None } }
+        ensures stored { result.access ≡ Access.Done → Stores self.old.kind (is_some (rate_by addr bytes.now)) addr bytes.now self.old.bytes self.new.bytes }
+        ensures latched { result.access ≡ Access.Done → result.latched ≡ latches addr bytes.now }
+        ensures received { result.access ≡ Access.Done → result.received ≡ received_by addr bytes.now }
+        ensures rate { result.access ≡ Access.Done → result.rate ≡ rate_by addr bytes.now }
+        ensures activation { result.access ≡ Access.Done → result.activation ≡ activation_by addr bytes.now }
+        ensures kind { self.new.kind ≡ self.old.kind }
+        ensures whole { IsWhole self.new }
+    {
+        let start = usize::from(addr);
+        if rules::is_refused(self.kind, start, bytes.len()) {
+            return Written {
+                access: Access::Refused,
+                latched: false,
+                received: None,
+                rate: None,
+                activation: None,
+            };
+        }
+        let rate = rules::rate(start, bytes);
+        rules::store_bytes(self.kind, rate.is_some(), &mut self.bytes, start, bytes);
+        Written {
+            access: Access::Done,
+            latched: rules::latches(start, bytes),
+            received: rules::received(start, bytes),
+            rate,
+            activation: rules::activation(start, bytes),
+        }
+    }
+
+    /// What a register holds.
+    pub fn get<W: RegWord, const ADDR: u16>(&self, _reg: Reg<W, ADDR>) -> W
+        requires { IsTrue (is_register ADDR W.BYTES) }
+        ensures { W.number result ≡ number_at W.BYTES ADDR self.now.bytes }
+    {
+        W::load(&self.bytes, usize::from(ADDR))
+    }
+
+    /// Sets what a register holds, whether frames can write it or not, and has no further effect.
+    pub fn set<W: RegWord, const ADDR: u16>(&mut self, _reg: Reg<W, ADDR>, value: W)
+        requires register { IsTrue (is_register ADDR W.BYTES) }
+        requires narrow { W.BYTES ≡ 8 → is_wide self.old.kind ≡ false → W.number value < 2 ^ 32 }
+        ensures is { self.new ≡ record self.old { bytes = with_number W.BYTES ADDR (W.number value) self.old.bytes } }
+        ensures gives { number_at W.BYTES ADDR self.new.bytes ≡ W.number value }
+        ensures apart { (at n : ℕ) → AreApart ADDR W.BYTES at n → number_at n at self.new.bytes ≡ number_at n at self.old.bytes }
+        ensures whole { IsWhole self.new }
+    {
+        value.store(&mut self.bytes, usize::from(ADDR));
+    }
+}

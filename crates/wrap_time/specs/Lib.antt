@@ -1,0 +1,3 @@
+pub mod WordDifference
+pub mod NearNumbers
+pub mod Extended
