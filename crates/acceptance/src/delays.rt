@@ -60,7 +60,14 @@ fn what_is_not_built_is_not_served_yet(rt: HostRuntime) -> Result<(), Fail> {
 #[test]
 fn wrong_words_are_refused_unread(rt: HostRuntime) -> Result<(), Fail> {
     let alloc = rt.alloc();
-    for line in ["drill 0 7", "gen 1", "run --edge", "", "delays now", "gen 01 7"] {
+    for line in [
+        "drill 0 7",
+        "gen 1",
+        "run --edge",
+        "",
+        "delays now",
+        "gen 01 7",
+    ] {
         let mut words = Vec::new(alloc);
         for word in line.split_whitespace() {
             words.push(word.to_string(alloc)?)?;

@@ -10,3 +10,5 @@ mod delays;
 mod faults;
 #[cfg(test)]
 mod files;
+#[cfg(test)]
+mod show;

@@ -3,24 +3,14 @@ use Rattle.std.specs.Prelude.{◌≡◌, ◌≢◌, ◌≤◌, ◌⊎◌, ℕ, L
 use Rattle.std.specs.Io.KnownBytes.{Appends, Keeps}
 use Rattle.serde_json.specs.Data.{Data}
 use Rattle.serde_json.specs.Read.{read}
+use Rattle.dc_show.specs.Shown.{Shows, Refuses}
 use Rattle.dc_base.specs.Told.{AppendsFront, HasMore}
 use Rattle.dc_top.specs.LineFile.{LineValue, line_in}
 use Rattle.dc_top.specs.Table.{IsTableOf}
-use Rattle.dc_top.specs.Words.{task_of}
 use Rattle.dc_top.specs.declared.words.Task.{Task}
-use Rattle.dc_top.specs.declared.words.Task.TheVariants.{Delays}
+use Rattle.dc_top.specs.declared.words.Task.TheVariants.{Delays, Show}
 use Rattle.dc_top.specs.declared.outcome.Outcome.{Outcome}
-use Rattle.dc_top.specs.declared.outcome.Outcome.TheVariants.{Done, Usage, BadText, ReadFault, WriteFault, NoMemory, TooLong, NotYet}
-
--- the one command that is built
-abbrev pub IsDelays : List (List ℕ) → Type 0
-IsDelays words = task_of words ≡ Some Delays
-
--- another command
-pub record IsOtherCommand (words : List (List ℕ)) : Type 0 where
-  pub task : Task
-  pub task_is : task_of words ≡ Some task
-  pub other : task ≢ Delays
+use Rattle.dc_top.specs.declared.outcome.Outcome.TheVariants.{Done, Usage, BadText, BadFrame, ReadFault, WriteFault, NoMemory, TooLong, NotYet}
 
 -- the greatest length of an input
 abbrev pub input_limit : ℕ
@@ -45,29 +35,68 @@ pub record IsOtherText (bytes : List ℕ) : Type 0 where
   pub text_is : IsText bytes value
   pub other : line_in value ≡ None
 
--- what an answer over the whole input says
-abbrev pub Served : Outcome → List ℕ → Option (List ℕ) → Option (List ℕ) → Type 0
-Served Done bytes taken taken' = (text : List ℕ) × (IsTable bytes text × Appends taken taken' text)
-Served WriteFault bytes taken taken' = (text : List ℕ) × (IsTable bytes text × AppendsFront taken taken' text)
-Served BadText bytes taken taken' = (IsUtf8 bytes → read bytes ≡ None) × Keeps taken taken'
-Served NotYet bytes taken taken' = IsOtherText bytes × Keeps taken taken'
-Served NoMemory bytes taken taken' = Keeps taken taken'
-Served ReadFault bytes taken taken' = ⊥
-Served TooLong bytes taken taken' = ⊥
-Served Usage bytes taken taken' = ⊥
+-- what an answer of `delays` over the whole input says
+abbrev pub ServedDelays : Outcome → List ℕ → Option (List ℕ) → Option (List ℕ) → Type 0
+ServedDelays Done bytes taken taken' = (text : List ℕ) × (IsTable bytes text × Appends taken taken' text)
+ServedDelays WriteFault bytes taken taken' = (text : List ℕ) × (IsTable bytes text × AppendsFront taken taken' text)
+ServedDelays BadText bytes taken taken' = (IsUtf8 bytes → read bytes ≡ None) × Keeps taken taken'
+ServedDelays NotYet bytes taken taken' = IsOtherText bytes × Keeps taken taken'
+ServedDelays NoMemory bytes taken taken' = Keeps taken taken'
+ServedDelays ReadFault bytes taken taken' = ⊥
+ServedDelays TooLong bytes taken taken' = ⊥
+ServedDelays Usage bytes taken taken' = ⊥
+ServedDelays (BadFrame line fault) bytes taken taken' = ⊥
 
--- where the source tells its bytes: all were read, and they were served so
-abbrev pub OverInput : Outcome → Option (List ℕ) → Option (List ℕ) → Option (List ℕ) → Option (List ℕ) → Type 0
-OverInput o None left' taken taken' = ⊤
-OverInput o (Some bytes) left' taken taken' = (left' ≡ Some []) × (length bytes ≤ input_limit) × Served o bytes taken taken'
+-- what an answer of `show` over the whole input says
+abbrev pub ServedShow : Outcome → List ℕ → Option (List ℕ) → Option (List ℕ) → Type 0
+ServedShow Done bytes taken taken' = (text : List ℕ) × (Shows 1 bytes text × Appends taken taken' text)
+ServedShow WriteFault bytes taken taken' = (text : List ℕ) × (Shows 1 bytes text × AppendsFront taken taken' text)
+ServedShow (BadFrame line fault) bytes taken taken' = Refuses 1 bytes line fault × Keeps taken taken'
+ServedShow NoMemory bytes taken taken' = Keeps taken taken'
+ServedShow BadText bytes taken taken' = ⊥
+ServedShow NotYet bytes taken taken' = ⊥
+ServedShow ReadFault bytes taken taken' = ⊥
+ServedShow TooLong bytes taken taken' = ⊥
+ServedShow Usage bytes taken taken' = ⊥
 
-abbrev pub Answered : Outcome → List (List ℕ) → Option (List ℕ) → Option (List ℕ) → Option (List ℕ) → Option (List ℕ) → Type 0
-Answered Done words left left' taken taken' = IsDelays words × OverInput Done left left' taken taken'
-Answered WriteFault words left left' taken taken' = IsDelays words × OverInput WriteFault left left' taken taken'
-Answered BadText words left left' taken taken' = IsDelays words × OverInput BadText left left' taken taken' × Keeps taken taken'
-Answered ReadFault words left left' taken taken' = IsDelays words × Keeps taken taken'
-Answered TooLong words left left' taken taken' = IsDelays words × HasMore left input_limit × Keeps taken taken'
-Answered NoMemory words left left' taken taken' = IsDelays words × Keeps taken taken'
-Answered Usage words left left' taken taken' = (task_of words ≡ None) × Keeps left left' × Keeps taken taken'
--- another command, and then nothing is read, or another file
-Answered NotYet words left left' taken taken' = (IsOtherCommand words × Keeps left left' ⊎ IsDelays words × OverInput NotYet left left' taken taken') × Keeps taken taken'
+-- where the source tells its bytes: all were read, and this holds of them
+abbrev pub OverInput : Option (List ℕ) → Option (List ℕ) → (List ℕ → Type 0) → Type 0
+OverInput None left' holds = ⊤
+OverInput (Some bytes) left' holds = (left' ≡ Some []) × (length bytes ≤ input_limit) × holds bytes
+
+-- the answers of `delays`
+abbrev pub AnsweredDelays : Outcome → Option (List ℕ) → Option (List ℕ) → Option (List ℕ) → Option (List ℕ) → Type 0
+AnsweredDelays Done left left' taken taken' = OverInput left left' (λ bytes. ServedDelays Done bytes taken taken')
+AnsweredDelays WriteFault left left' taken taken' = OverInput left left' (λ bytes. ServedDelays WriteFault bytes taken taken')
+AnsweredDelays BadText left left' taken taken' = OverInput left left' (λ bytes. ServedDelays BadText bytes taken taken') × Keeps taken taken'
+AnsweredDelays NotYet left left' taken taken' = OverInput left left' (λ bytes. ServedDelays NotYet bytes taken taken') × Keeps taken taken'
+AnsweredDelays ReadFault left left' taken taken' = Keeps taken taken'
+AnsweredDelays TooLong left left' taken taken' = HasMore left input_limit × Keeps taken taken'
+AnsweredDelays NoMemory left left' taken taken' = Keeps taken taken'
+AnsweredDelays Usage left left' taken taken' = ⊥
+AnsweredDelays (BadFrame line fault) left left' taken taken' = ⊥
+
+-- the answers of `show`
+abbrev pub AnsweredShow : Outcome → Option (List ℕ) → Option (List ℕ) → Option (List ℕ) → Option (List ℕ) → Type 0
+AnsweredShow Done left left' taken taken' = OverInput left left' (λ bytes. ServedShow Done bytes taken taken')
+AnsweredShow WriteFault left left' taken taken' = OverInput left left' (λ bytes. ServedShow WriteFault bytes taken taken')
+AnsweredShow (BadFrame line fault) left left' taken taken' = OverInput left left' (λ bytes. ServedShow (BadFrame line fault) bytes taken taken') × Keeps taken taken'
+AnsweredShow ReadFault left left' taken taken' = Keeps taken taken'
+AnsweredShow TooLong left left' taken taken' = HasMore left input_limit × Keeps taken taken'
+AnsweredShow NoMemory left left' taken taken' = Keeps taken taken'
+AnsweredShow BadText left left' taken taken' = ⊥
+AnsweredShow NotYet left left' taken taken' = ⊥
+AnsweredShow Usage left left' taken taken' = ⊥
+
+-- the answers to words: Usage to those that are no command, NotYet to the commands that are not built, and then nothing is read
+abbrev pub Answered : Option Task → Outcome → Option (List ℕ) → Option (List ℕ) → Option (List ℕ) → Option (List ℕ) → Type 0
+Answered None o left left' taken taken' = (o ≡ Usage) × Keeps left left' × Keeps taken taken'
+Answered (Some Delays) o left left' taken taken' = AnsweredDelays o left left' taken taken'
+Answered (Some Show) o left left' taken taken' = AnsweredShow o left left' taken taken'
+Answered (Some task) o left left' taken taken' = (o ≡ NotYet) × Keeps left left' × Keeps taken taken'
+
+-- the commands that read an input
+abbrev pub HasInput : Option Task → Type 0
+HasInput (Some Delays) = ⊤
+HasInput (Some Show) = ⊤
+HasInput task = ⊥

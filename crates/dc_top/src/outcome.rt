@@ -1,5 +1,6 @@
 ghost use Rattle.std.specs.Prelude.{◌≡◌};
 
+use dc_show::FrameFault;
 use std::fmt;
 
 /// How the program ends.
@@ -11,6 +12,8 @@ pub enum Outcome {
     Usage,
     /// The input is not JSON.
     BadText,
+    /// This line of the input of `show`, counted from 1, is no frame.
+    BadFrame(u32, FrameFault),
     /// The source failed.
     ReadFault,
     /// The sink failed, and holds a front of the output.
@@ -34,6 +37,7 @@ impl Outcome {
             Outcome::Done => 0,
             Outcome::Usage => 2,
             Outcome::BadText => 3,
+            Outcome::BadFrame(..) => 5,
             Outcome::ReadFault => 7,
             Outcome::WriteFault => 8,
             Outcome::NoMemory => 9,
@@ -55,6 +59,7 @@ impl fmt::Display for Outcome {
             Outcome::Done => Ok(()),
             Outcome::Usage => write!(f, "dc: usage"),
             Outcome::BadText => write!(f, "dc: not JSON"),
+            Outcome::BadFrame(line, fault) => write!(f, "dc: frame: line {line} {fault}"),
             Outcome::ReadFault => write!(f, "dc: read fault"),
             Outcome::WriteFault => write!(f, "dc: write fault"),
             Outcome::NoMemory => write!(f, "dc: no memory"),

@@ -2,10 +2,11 @@
 ghost use Rattle.std.specs.Prelude.{◌≡◌, ◌≢◌, ◌<◌, ◌≤◌, ◌↔◌, map, length, string_bytes, IsTrue, IfOk};
 ghost use Rattle.dc_base.specs.Causes.{Rose};
 ghost use Rattle.dc_top.specs.declared.outcome.Outcome.TheVariants.{ReadFault, WriteFault, TooLong};
-ghost use Rattle.dc_top.specs.Answers.{IsDelays, Served, Answered, input_limit};
+ghost use Rattle.dc_top.specs.Answers.{HasInput, ServedDelays, ServedShow, AnsweredDelays, AnsweredShow, Answered, input_limit};
 ghost use Rattle.dc_base.specs.Told.{Gave};
 ghost use Rattle.dc_top.specs.Seen.{line_seen};
 ghost use Rattle.dc_top.specs.Table.{IsTableOf};
+ghost use Rattle.dc_top.specs.Words.{task_of};
 
 use crate::Outcome;
 use crate::commission::commission;
@@ -13,6 +14,7 @@ use crate::line_file::{LineFile, line_in};
 use crate::table::table;
 use crate::words::{Task, task_of};
 use dc_base::{NoMemory, ReadAllError, Sink, Source, read_all, write_whole};
+use dc_show::ShowError;
 use serde_json::Value;
 use std::alloc::Global;
 use wire_sim::Wire;
@@ -20,40 +22,85 @@ use wire_sim::Wire;
 /// The most bytes of an input.
 const INPUT_LIMIT: usize = 16_777_216;
 
-/// Runs the command of the words: `delays` reads a segment file from the source and writes its delay table to the sink.
+/// Runs the command of the words: `delays` reads a segment file from the source and writes its delay table to the sink; `show` reads
+/// lines of hexadecimal digits, a frame each, and writes them in words.
 ///
-/// Words that are no command are answered by `Usage`. The other commands, and files that are JSON but describe no line, are answered by
-/// `NotYet`. For other words than `delays` nothing is read. The source is read to its end before anything is judged, and nothing is
-/// written before all is known.
+/// Words that are no command are answered by `Usage`, and the commands that are not built yet by `NotYet`; then nothing is read. The
+/// source is read to its end before anything is judged, and nothing is written before all is known. A file that is JSON but describes no
+/// line is answered by `NotYet` too.
 pub fn dc_main<I: Source, O: Sink>(
     alloc: Global,
     words: &[String],
     input: &mut I,
     output: &mut O,
 ) -> Outcome
-    ensures answered { Answered result (map string_bytes words.now) (I.left input.old) (I.left input.new)
+    ensures answered { Answered (task_of (map string_bytes words.now)) result (I.left input.old) (I.left input.new)
         (O.taken output.old) (O.taken output.new) }
-    ensures too_long { IsDelays (map string_bytes words.now) → Gave (I.left input.old) (I.left input.new)
+    ensures too_long { HasInput (task_of (map string_bytes words.now)) → Gave (I.left input.old) (I.left input.new)
         (λ bytes. (result ≡ TooLong) ↔ (input_limit < length bytes)) }
     ensures read_fault { result ≡ ReadFault → Rose (I.faults input.old) (I.faults input.new) }
     ensures write_fault { result ≡ WriteFault → Rose (O.faults output.old) (O.faults output.new) }
 {
     match task_of(words) {
-        None => return Outcome::Usage,
-        Some(Task::Delays) => {}
-        Some(_) => return Outcome::NotYet,
+        None => Outcome::Usage,
+        Some(Task::Delays) => delays(alloc, input, output),
+        Some(Task::Show) => show(alloc, input, output),
+        Some(_) => Outcome::NotYet,
     }
+}
+
+// The command `delays`.
+fn delays<I: Source, O: Sink>(alloc: Global, input: &mut I, output: &mut O) -> Outcome
+    ensures answered { AnsweredDelays result (I.left input.old) (I.left input.new) (O.taken output.old) (O.taken output.new) }
+    ensures too_long { Gave (I.left input.old) (I.left input.new) (λ bytes. (result ≡ TooLong) ↔ (input_limit < length bytes)) }
+    ensures read_fault { result ≡ ReadFault → Rose (I.faults input.old) (I.faults input.new) }
+    ensures write_fault { result ≡ WriteFault → Rose (O.faults output.old) (O.faults output.new) }
+{
     match read_all(alloc, input, INPUT_LIMIT) {
-        Ok(bytes) => serve(alloc, &bytes, output),
+        Ok(bytes) => serve_delays(alloc, &bytes, output),
         Err(ReadAllError::ReadFault) => Outcome::ReadFault,
         Err(ReadAllError::TooLong) => Outcome::TooLong,
         Err(ReadAllError::NoMemory) => Outcome::NoMemory,
     }
 }
 
-// The answer to a whole input.
-fn serve<O: Sink>(alloc: Global, bytes: &[u8], output: &mut O) -> Outcome
-    ensures served { Served result bytes.now (O.taken output.old) (O.taken output.new) }
+// The command `show`.
+fn show<I: Source, O: Sink>(alloc: Global, input: &mut I, output: &mut O) -> Outcome
+    ensures answered { AnsweredShow result (I.left input.old) (I.left input.new) (O.taken output.old) (O.taken output.new) }
+    ensures too_long { Gave (I.left input.old) (I.left input.new) (λ bytes. (result ≡ TooLong) ↔ (input_limit < length bytes)) }
+    ensures read_fault { result ≡ ReadFault → Rose (I.faults input.old) (I.faults input.new) }
+    ensures write_fault { result ≡ WriteFault → Rose (O.faults output.old) (O.faults output.new) }
+{
+    match read_all(alloc, input, INPUT_LIMIT) {
+        Ok(bytes) => serve_show(alloc, &bytes, output),
+        Err(ReadAllError::ReadFault) => Outcome::ReadFault,
+        Err(ReadAllError::TooLong) => Outcome::TooLong,
+        Err(ReadAllError::NoMemory) => Outcome::NoMemory,
+    }
+}
+
+// The answer of `show` to a whole input.
+fn serve_show<O: Sink>(alloc: Global, bytes: &[u8], output: &mut O) -> Outcome
+    requires { length bytes.now ≤ 16777216 }
+    ensures served { ServedShow result bytes.now (O.taken output.old) (O.taken output.new) }
+    ensures fault { result ≡ WriteFault → Rose (O.faults output.old) (O.faults output.new) }
+    ensures read { result ≢ ReadFault }
+    ensures whole { result ≢ TooLong }
+{
+    let text = match dc_show::show(alloc, bytes) {
+        Ok(text) => text,
+        Err(ShowError::BadFrame(line, fault)) => return Outcome::BadFrame(line, fault),
+        Err(ShowError::NoMemory) => return Outcome::NoMemory,
+    };
+    match write_whole(output, &text) {
+        Ok(()) => Outcome::Done,
+        Err(_) => Outcome::WriteFault,
+    }
+}
+
+// The answer of `delays` to a whole input.
+fn serve_delays<O: Sink>(alloc: Global, bytes: &[u8], output: &mut O) -> Outcome
+    ensures served { ServedDelays result bytes.now (O.taken output.old) (O.taken output.new) }
     ensures fault { result ≡ WriteFault → Rose (O.faults output.old) (O.faults output.new) }
     ensures whole { result ≢ TooLong }
 {
