@@ -1,3 +1,4 @@
 pub mod Texts
 pub mod Passing
 pub mod Continuing
+pub mod Digits

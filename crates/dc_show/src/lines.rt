@@ -1,12 +1,14 @@
-ghost use Rattle.std.specs.Prelude.{◌≡◌, ◌+◌, ◌%◌, ◌<◌, ◌≤◌, ◌↔◌, ◌++◌, ℕ, List, length, IsTrue, IfOk, IfErr, OnOk, MatchOption, Ok, true, take, drop};
+ghost use Rattle.std.specs.Prelude.{◌≡◌, ◌≢◌, ◌+◌, ◌%◌, ◌<◌, ◌≤◌, ◌↔◌, ◌++◌, ℕ, List, length, IsTrue, IfOk, IfErr, OnOk, MatchOption, Ok, true, take, drop};
 ghost use Rattle.std.specs.List.{list_all};
 ghost use Rattle.hex.specs.Hex.{decode_of, is_hex_digit};
 ghost use Rattle.ecat_frame.specs.FrameGrammar.{IsFrame, spelling};
-ghost use Rattle.dc_show.specs.Shown.{without_return, IsFirstOther, ShowsLine, IsLineError, IsOneLine, IsLineEnd, error_at, Shows, IsShowError};
+ghost use Rattle.dc_show.specs.declared.error.FrameFault.TheVariants.{Hex};
+ghost use Rattle.dc_show.specs.Shown.{RefusesLine, without_return, IsFirstOther, ShowsLine, IsLineError, IsOneLine, IsLineEnd, error_at, Shows, IsShowError};
 
 use crate::error::{FrameFault, ShowError};
 use crate::frame_text::push_frame;
 use ecat_frame::Frame;
+use hex::FromHexError;
 use std::alloc::Global;
 
 // Why a line has no text.
@@ -45,20 +47,26 @@ fn without_return(line: &[u8]) -> &[u8]
     }
 }
 
+// The place of the first character that is no hexadecimal digit, or else the number of the digits.
+fn bad_digit(line: &[u8]) -> usize
+    requires { (bytes : List ℕ) → decode_of line.now ≢ Ok bytes }
+    ensures { RefusesLine line.now (Hex result) }
+{
+    match first_other(line) {
+        Some(place) => place,
+        None => line.len(),
+    }
+}
+
 // The bytes of the digits.
 fn decode(alloc: Global, line: &[u8]) -> Result<Vec<u8>, LineError>
     ensures ok { IfOk result (λ bytes. decode_of line.now ≡ Ok bytes.items) }
     ensures err { IfErr result (IsLineError line.now) }
 {
-    if let Some(place) = first_other(line) {
-        return Err(LineError::Fault(FrameFault::Hex(place)));
-    }
-    if line.len() % 2 == 1 {
-        return Err(LineError::Fault(FrameFault::Hex(line.len())));
-    }
     match hex::decode(alloc, line) {
         Ok(bytes) => Ok(bytes),
-        Err(_) => Err(LineError::NoMemory),
+        Err(FromHexError::OutOfMemory) => Err(LineError::NoMemory),
+        Err(_) => Err(LineError::Fault(FrameFault::Hex(bad_digit(line)))),
     }
 }
 
