@@ -1,5 +1,5 @@
 -- The words, taken one after another.
-use Rattle.std.proofs.Common.{◌≡◌, ◌∙◌, sym, ap, ℕ, zero, suc, ◌+◌, ◌<◌, ◌≤◌, Bool, true, false, IsTrue, List, [], ◌∷◌, ◌++◌, length, codes, Option, Some, None, refl, arith, append_assoc, append-nil, zero-add, add-zero, cond, String, Global, string_bytes, map, drop, get_or, set, take}
+use Rattle.std.proofs.Common.{◌≡◌, ◌∙◌, sym, ap, ℕ, suc, ◌+◌, ◌<◌, ◌≤◌, Bool, true, false, List, [], ◌∷◌, ◌++◌, length, Option, Some, None, refl, arith, append_assoc, append-nil, zero-add, add-zero, String, Global, string_bytes, map, drop, get_or, set, take}
 use Rattle.std.specs.Option.{option_map, option_and_then}
 use Rattle.std.proofs.lemmas.List.{length-append, length-map, length-take, drop_more, drop_all, take_more_set, map-append}
 use Rattle.dc_top.specs.Words.{Sorted, with_plain, with_flag, kind_of, taken, sorted, made, task_of}

@@ -1,4 +1,4 @@
-use Rattle.std.proofs.Common.{ℕ, ◌≡◌, ◌∙◌, sym, ap, refl, map, take, drop, cond, string_bytes, ◌+◌, arith, true, false}
+use Rattle.std.proofs.Common.{ℕ, ◌∙◌, sym, ap, map, take, drop, cond, string_bytes, ◌+◌, arith}
 use Rattle.dc_top.proofs.Sorting.{completed, plain, dashes, flag, refused, too_many_plain, too_many_flags, completed_end, none_left, before, kept_plain, three}
 use Rattle.std.proofs.Math.ListN.{length-set}
 use Rattle.dc_top.proofs.words.task_of.Goals as goal
