@@ -1,0 +1,5 @@
+pub mod StepRule
+pub mod Reading
+pub mod FirstReaching
+pub mod AtOnce
+pub mod WorkedOff

@@ -1,0 +1,158 @@
+ghost use Rattle.std.specs.Prelude.{◌≡◌, ℕ, ◌+◌, ◌<◌, ◌≤◌, pos, ⊤, IfSome};
+ghost use Rattle.local_clock.specs.Reading.{advanced, corrected, reset_to, started};
+ghost use Rattle.osc_clock.specs.Ticks.{IsRunning};
+ghost use Rattle.local_clock.specs.FirstReaching.{IsFirstReaching, tick_after, within_time};
+
+use crate::steps::{ticked, ticks_to_pass};
+use osc_clock::Osc;
+use std::alloc::AllocError;
+use std::marker::Model;
+use wrap_time::ClockWord;
+
+/// A clock that an oscillator drives, standing at a true time. It is `Copy`, so that a caller may look
+/// ahead on a copy of it.
+#[derive(Copy)]
+pub struct LocalClock<W: ClockWord> {
+    osc: Osc,
+    instant: u64,
+    reading: W,
+    left: i64,
+    count: u8,
+    g: u8,
+}
+
+impl<W: ClockWord> Model for LocalClock<W> {
+    ghost use Rattle.local_clock.specs.Reading.{Clock};
+
+    ghost Value = { Clock };
+
+    ghost use Rattle.std.specs.Prelude.{◌≡◌, ◌<◌, ◌≤◌, ◌^◌, pos, unsigned_abs};
+
+    ghost view = { λ a. record { osc = a.osc; instant = a.instant; reading = W.number a.reading; left = a.left; count = a.count; g = a.g } };
+
+    ghost invariant = { λ a. (a.count < a.g) × (a.left ≡ pos 0 → a.count ≡ 0) × (unsigned_abs a.left ≤ 2 ^ 31)
+        × (W.word (W.number a.reading) ≡ a.reading) };
+
+    ghost inverse = { λ c. record { osc = c.osc; instant = c.instant; reading = W.word c.reading; left = c.left; count = c.count; g = c.g } };
+
+    ghost use Rattle.std.proofs.Common.{ap};
+
+    ghost inverse_ok = { λ a h. ap (λ r. record a { reading = r }) h.3 };
+}
+
+impl<W: ClockWord> Clone for LocalClock<W> {
+    ghost is_clone = { λ x y. y ≡ x };
+
+    ghost is_infallible = { λ _. ⊤ };
+
+    fn clone(&self) -> Result<Self, AllocError> {
+        Ok(*self)
+    }
+}
+
+impl<W: ClockWord> LocalClock<W> {
+    /// A clock at true time 0 with nothing to correct. `g` is how many ticks there are to a correction:
+    /// the speed counter's start divided by 64 (ESC data sheet, speed counter).
+    pub fn new(osc: Osc, start: W, g: u8) -> Self
+        requires { 1 ≤ g }
+        ensures { result ≡ started osc (W.number start) g }
+    {
+        LocalClock {
+            osc,
+            instant: 0,
+            reading: start,
+            left: 0,
+            count: 0,
+            g,
+        }
+    }
+
+    /// The true time at which it stands, in fs.
+    pub fn now(&self) -> u64
+        ensures { result ≡ self.now.instant }
+    {
+        self.instant
+    }
+
+    /// The local time, in ns.
+    pub fn reading(&self) -> W
+        ensures { W.number result ≡ self.now.reading }
+    {
+        self.reading
+    }
+
+    /// What is left of the received difference, in ns: above 0 while the clock is ahead and runs slower.
+    pub fn left(&self) -> i64
+        ensures { result ≡ self.now.left }
+    {
+        self.left
+    }
+
+    /// The true time of the next tick, in fs; `None` where that is above 2^64 - 1.
+    pub fn next_tick(&self) -> Option<u64>
+        ensures at { result ≡ within_time (tick_after self.now 1) }
+        ensures later { IfSome result (λ t. self.now.instant < t) }
+        ensures running { IsRunning self.now.osc }
+    {
+        self.instant_after(1)
+    }
+
+    /// Takes the ticks after its instant and at or before `t`, and stands at `t`.
+    pub fn advance(&mut self, t: u64)
+        requires { self.old.instant ≤ t }
+        ensures is { self.new ≡ advanced W.WIDTH t self.old }
+        ensures running { IsRunning self.new.osc }
+    {
+        let ticks = self.osc.ticks_until(t) - self.osc.ticks_until(self.instant);
+        let (elapsed, left, count) = ticked(self.left, self.count, self.g, ticks);
+        self.reading = self.reading.add((elapsed % (1 << 64)) as u64);
+        self.left = left;
+        self.count = count;
+        self.instant = t;
+    }
+
+    /// Begins to work off a difference, in ns: above 0 where the clock is ahead.
+    pub fn receive(&mut self, difference: i32)
+        ensures { self.new ≡ corrected difference self.old }
+    {
+        self.left = i64::from(difference);
+        self.count = 0;
+    }
+
+    /// Drops what is left to correct, and sets how many ticks there are to a correction.
+    pub fn reset(&mut self, g: u8)
+        requires { 1 ≤ g }
+        ensures { self.new ≡ reset_to g self.old }
+    {
+        self.left = 0;
+        self.count = 0;
+        self.g = g;
+    }
+
+    /// The true time, in fs, of the first tick from now at which the reading is not behind `v`, where
+    /// nothing is received in between; `None` where that is above 2^64 - 1.
+    pub fn first_reaching(&self, v: W) -> Option<u64>
+        ensures at { (k : ℕ) × (IsFirstReaching W.WIDTH (W.number v) self.now k × (result ≡ within_time (tick_after self.now k))) }
+        ensures later { IfSome result (λ t. self.now.instant < t) }
+        ensures running { IsRunning self.now.osc }
+    {
+        let (step, _, _) = ticked(self.left, self.count, self.g, 1);
+        let ahead = self.reading.add(step as u64).diff(v);
+        if ahead >= 0 {
+            return self.instant_after(1);
+        }
+        let gap = step as u64 + ahead.unsigned_abs();
+        self.instant_after(ticks_to_pass(self.left, self.count, self.g, gap))
+    }
+
+    // When the k-th tick from now is.
+    fn instant_after(&self, k: u64) -> Option<u64>
+        requires { 1 ≤ k }
+        ensures at { result ≡ within_time (tick_after self.now k) }
+        ensures later { IfSome result (λ t. self.now.instant < t) }
+        ensures running { IsRunning self.now.osc }
+    {
+        let tick = self.osc.ticks_until(self.instant).checked_add(k)?;
+        u64::try_from(self.osc.instant_of(tick)).ok()
+    }
+}

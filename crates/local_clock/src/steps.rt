@@ -1,0 +1,63 @@
+ghost use Rattle.std.specs.Prelude.{◌≡◌, ℕ, ◌+◌, ◌^◌, ◌<◌, ◌≤◌, pos, unsigned_abs};
+ghost use Rattle.local_clock.specs.StepRule.{elapsed, steered};
+ghost use Rattle.local_clock.specs.AtOnce.{done, counted};
+
+// How many corrections k ticks bring, and the ticks after the last of them.
+fn corrections(size: u64, count: u8, g: u8, k: u64) -> (u64, u8)
+    requires { count < g }
+    ensures done { result.0 ≡ done g size count k }
+    ensures counted { result.1 ≡ counted g size count k }
+    ensures within { result.0 ≤ size }
+    ensures below { result.1 < g }
+    ensures rests { result.0 ≡ size → result.1 ≡ 0 }
+{
+    let turns = u128::from(count) + u128::from(k);
+    let every = u128::from(g);
+    let rounds = turns / every;
+    if rounds < u128::from(size) {
+        (rounds as u64, (turns % every) as u8)
+    } else {
+        (size, 0)
+    }
+}
+
+/// The nanoseconds of k ticks, what they leave to correct, and the ticks after the last correction.
+pub(crate) fn ticked(left: i64, count: u8, g: u8, k: u64) -> (u128, i64, u8)
+    requires small { unsigned_abs left ≤ 2 ^ 31 }
+    requires below { count < g }
+    requires rests { left ≡ pos 0 → count ≡ 0 }
+    ensures elapsed { result.0 ≡ elapsed g k (record { left = left; count = count }) }
+    ensures left { result.1 ≡ (steered g k (record { left = left; count = count })).left }
+    ensures count { result.2 ≡ (steered g k (record { left = left; count = count })).count }
+    ensures steady { (result.2 < g) × (result.1 ≡ pos 0 → result.2 ≡ 0) × (unsigned_abs result.1 ≤ 2 ^ 31) }
+{
+    let (done, count) = corrections(left.unsigned_abs(), count, g, k);
+    let ticks = 10 * u128::from(k);
+    if left > 0 {
+        (ticks - u128::from(done), left - done as i64, count)
+    } else {
+        (ticks + u128::from(done), left + done as i64, count)
+    }
+}
+
+/// The least number of ticks that take at least so many nanoseconds.
+pub(crate) fn ticks_to_pass(left: i64, count: u8, g: u8, gap: u64) -> u64
+    requires small { unsigned_abs left ≤ 2 ^ 31 }
+    requires below { count < g }
+    requires rests { left ≡ pos 0 → count ≡ 0 }
+    ensures reached { gap ≤ elapsed g result (record { left = left; count = count }) }
+    ensures least { (j : ℕ) → j < result → elapsed g j (record { left = left; count = count }) < gap }
+{
+    let mut low = gap / 11;
+    let mut high = gap / 9 + 1;
+    while low < high {
+        let middle = low + (high - low) / 2;
+        let (elapsed, _, _) = ticked(left, count, g, middle);
+        if elapsed >= u128::from(gap) {
+            high = middle;
+        } else {
+            low = middle + 1;
+        }
+    }
+    low
+}

@@ -1,0 +1,5 @@
+pub mod Gaps
+mod Pieces
+mod Walks
+mod Counting
+pub mod TickLaws

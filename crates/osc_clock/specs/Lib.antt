@@ -1,0 +1,3 @@
+pub mod Ticks
+pub mod IntervalTicks
+pub mod InsideOsc
