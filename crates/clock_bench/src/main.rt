@@ -49,11 +49,11 @@ fn run(rt: &HostRuntime, words: &[String]) -> Option<()> {
     }
 }
 
-// An oscillator that is slow at first and fast from the second half of the first millisecond on.
+// An oscillator whose period changes twice within the first microsecond.
 fn oscillator() -> Option<Osc> {
     let rates = [
-        RateRow { tick: 1_000, period_fs: 10_001_000 },
-        RateRow { tick: 50_000, period_fs: 9_999_000 },
+        RateRow { tick: 10, period_fs: 10_001_000 },
+        RateRow { tick: 50, period_fs: 9_999_000 },
     ];
     Osc::with_rates(3_000_000, 10_000_000, &rates)
 }

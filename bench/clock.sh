@@ -1,0 +1,30 @@
+#!/usr/bin/env bash
+# Measures what clocks and SYNC units cost. First `LocalClock::advance` over 10^9 fs and over 10^18 fs, a million times each
+# by turns: the two cost the same, because no call goes over the ticks of its interval. Then one unit that raises 200,000 edges.
+# The best wall clock of five runs counts.
+set -eu
+here=$(cd "$(dirname "${BASH_SOURCE[0]}")" && pwd)
+program=$here/../crates/clock_bench/out/clock_bench
+[ -x "$program" ] || { echo "bench: .ci/run leaves the proved program that this measures" >&2; exit 1; }
+
+# The wall clock of a run of the program, in microseconds.
+clock() {
+    local start=${EPOCHREALTIME/./}
+    "$program" "$@" > /dev/null
+    echo $((${EPOCHREALTIME/./} - start))
+}
+
+# The lesser of two numbers, the first of which may be missing.
+lesser() { [ -n "$1" ] && [ "$1" -le "$2" ] && echo "$1" || echo "$2"; }
+
+short=
+long=
+edges=
+for _ in 1 2 3 4 5; do
+    short=$(lesser "$short" "$(clock advance 1000000000 1000000)")
+    long=$(lesser "$long" "$(clock advance 1000000000000000000 1000000)")
+    edges=$(lesser "$edges" "$(clock edges 101000000000000000)")
+done
+awk -v short="$short" -v long="$long" -v edges="$edges" 'BEGIN {
+    printf "advance over 10^9 fs   %6.1f ns\nadvance over 10^18 fs  %6.1f ns\n200,000 edges          %6.3f s\n", short / 1e3, long / 1e3, edges / 1e6
+}'

@@ -1,0 +1,6 @@
+pub mod TickBounds
+pub mod LockNumbers
+pub mod CopyBound
+pub mod DelayBound
+pub mod RunNumbers
+pub mod TickFacts

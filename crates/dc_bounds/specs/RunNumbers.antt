@@ -1,0 +1,16 @@
+-- How long a run is, in ns and in frames.
+use Rattle.std.specs.Prelude.{ℕ, ◌+◌, ◌*◌, ◌/◌}
+
+-- the time that arming may take, from the last time of the reference that came back, and two periods more
+abbrev pub lead_ns : ℕ → ℕ → ℕ → ℕ
+lead_ns clocks loss_run frame_ns = (3 * clocks + loss_run + 2) * frame_ns
+
+-- U: the time from there to the last edge and a cycle more
+abbrev pub reach_ns : ℕ → ℕ → ℕ → ℕ → ℕ → ℕ
+reach_ns clocks loss_run frame_ns cycle_ns cycles = lead_ns clocks loss_run frame_ns + (cycles + 2) * cycle_ns
+
+-- the frames that a run sends: those of U and of a thousandth of it, and three more
+abbrev pub run_frames : ℕ → ℕ → ℕ → ℕ → ℕ → ℕ
+run_frames clocks loss_run frame_ns cycle_ns cycles =
+    let u = reach_ns clocks loss_run frame_ns cycle_ns cycles in
+    (u + u / 1000) / frame_ns + 3

@@ -1,0 +1,26 @@
+//! The numbers of the bounds: how far the ticks of a clock can be from the time that they take, how near a
+//! measured delay is to the true one, after how many frames the clocks are together, how near they then
+//! stay, and how long a run is. They rest on three facts: each gap between two ticks is within `ppm` of
+//! 10 ns, at most `loss_run` drift frames are lost in a row, and a frame is sent each `frame_ns`.
+//!
+//! Every call computes its formula in `specs/`, which are named by the letters that the literature of this
+//! project uses: G, Q and nmin (`TickBounds`), μ, Z and K (`LockNumbers`), B (`DelayBound`), X and W
+//! (`CopyBound`), lead and the frames of a run (`RunNumbers`). None takes memory. What the formulas mean
+//! for clocks is in the [`laws`].
+#![tactic(auto)]
+
+mod copies;
+mod delays;
+pub mod laws;
+mod lock;
+mod run;
+mod ticks;
+
+pub use copies::{copy_bound, window};
+pub use delays::delay_bound;
+pub use lock::{lock_count, lock_step, reach_fs};
+pub use run::{lead_ns, run_frames};
+pub use ticks::{jump, least_ticks, tick_gap};
+
+#[cfg(test)]
+mod tests;

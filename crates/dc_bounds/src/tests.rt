@@ -1,0 +1,117 @@
+//! The numbers of the bounds against those that a program in whole numbers of any size gave, among them
+//! the ends of every range.
+
+ghost use Rattle.std.specs.Prelude.{◌≤◌, ◌^◌};
+
+use super::{
+    copy_bound, delay_bound, jump, lead_ns, least_ticks, lock_count, lock_step, reach_fs,
+    run_frames, tick_gap, window,
+};
+
+const FAR_FS: u128 = 100_000_000_000_000_000_000;
+
+#[test]
+fn bounds_of_ticks(rt: HostRuntime) {
+    for (length_fs, ns) in [
+        (1_000_000_000, 20),
+        (1_000_000_000_000, 220),
+        (4_000_000_000_000, 820),
+        (40_000_000_000_000, 8_020),
+        (FAR_FS, 20_002_000_220),
+    ] {
+        assert_eq!(rt; jump(100, length_fs), ns, "{length_fs}");
+    }
+    assert_eq!(rt;
+        (tick_gap(0, FAR_FS), tick_gap(100, FAR_FS)),
+        (10_000_000, 10_001_000_110_012_000)
+    );
+    assert_eq!(rt;
+        (least_ticks(100, 0), least_ticks(100, FAR_FS)),
+        (0, 9_999_000_099_990)
+    );
+}
+
+/// The lock-in count, where the clocks come together at all.
+fn count(ppm: u32, frame_ns: u32, speed: u16, loss_run: u8, z_fs: u128) -> Option<u128>
+    requires rate { ppm ≤ 100 }
+    requires frame { (50000 ≤ frame_ns) × (frame_ns ≤ 10000000) }
+    requires speed { (128 ≤ speed) × (speed ≤ 16383) }
+    requires losses { loss_run ≤ 15 }
+    requires reach { z_fs ≤ 10 ^ 20 }
+{
+    if lock_step(ppm, frame_ns, speed, loss_run) < 1 {
+        return None;
+    }
+    Some(lock_count(ppm, frame_ns, speed, loss_run, z_fs))
+}
+
+#[test]
+fn bounds_of_locking(rt: HostRuntime) {
+    assert_eq!(rt; lock_step(100, 1_000_000, 0x1000, 3), 1_342);
+    assert_eq!(rt; lock_step(100, 50_000, 128, 15), 2_469);
+    assert_eq!(rt; lock_step(100, 10_000_000, 0x3fff, 15), 1_901);
+    assert_eq!(rt; lock_step(0, 50_000, 0x3fff, 15), -1);
+    assert_eq!(rt; lock_step(100, 50_000, 0x3fff, 15), -11);
+
+    assert_eq!(rt;
+        count(100, 1_000_000, 0x1000, 3, 40_000_000_000_000),
+        Some(24)
+    );
+    assert_eq!(rt;
+        count(100, 1_000_000, 0x1000, 3, reach_fs(2, 2, 3, 1_000_000)),
+        Some(8)
+    );
+    assert_eq!(rt;
+        count(100, 10_000_000, 128, 15, reach_fs(256, 256, 15, 10_000_000)),
+        Some(112)
+    );
+    assert_eq!(rt; count(0, 1_000_000, 0x1000, 0, FAR_FS), Some(0));
+    assert_eq!(rt; count(0, 50_000, 0x3fff, 15, FAR_FS), None);
+
+    assert_eq!(rt;
+        (
+            reach_fs(1, 1, 0, 50_000),
+            reach_fs(256, 256, 15, 10_000_000)
+        ),
+        (350_000_000_000, 15_520_000_000_000_000)
+    );
+}
+
+#[test]
+fn bounds_of_delays_and_copies(rt: HostRuntime) {
+    assert_eq!(rt; delay_bound(100, 0, 18_446_744_073_709_551_615), 0);
+    assert_eq!(rt; delay_bound(100, 1, 0), 5_501_000);
+    assert_eq!(rt; delay_bound(0, 2, 1_430_000_000), 10_500_000);
+    assert_eq!(rt;
+        delay_bound(100, 4_294_967_295, 18_446_744_073_709_551_615),
+        3_961_804_326_699_929_408_645_000
+    );
+    assert_eq!(rt; copy_bound(0, 50_000, 0, 0, 0), 40_000_000);
+    assert_eq!(rt;
+        copy_bound(1, 100_000, 2, 5_500_000, 360_000_000),
+        46_100_760
+    );
+    assert_eq!(rt;
+        copy_bound(100, 10_000_000, 15, FAR_FS, 18_446_744_073_709_551_615),
+        100_003_689_781_832_724_000
+    );
+    assert_eq!(rt; window(0, 0, 0, 0), 20_000_000);
+    assert_eq!(rt;
+        window(100, 1_000_000_000_000, 10 * FAR_FS, 10 * FAR_FS),
+        2_000_200_100_000_020_002_000
+    );
+}
+
+#[test]
+fn lengths_of_a_run(rt: HostRuntime) {
+    assert_eq!(rt;
+        (lead_ns(1, 0, 50_000), lead_ns(256, 15, 10_000_000)),
+        (250_000, 7_850_000_000)
+    );
+    assert_eq!(rt; run_frames(1, 0, 50_000, 0, 0), 8);
+    assert_eq!(rt; run_frames(2, 1, 1_000_000, 1_000_000, 4), 18);
+    assert_eq!(rt;
+        run_frames(256, 15, 10_000_000, 4_294_967_295, 100_000),
+        42_994_271
+    );
+}
