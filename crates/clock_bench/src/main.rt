@@ -52,8 +52,14 @@ fn run(rt: &HostRuntime, words: &[String]) -> Option<()> {
 // An oscillator whose period changes twice within the first microsecond.
 fn oscillator() -> Option<Osc> {
     let rates = [
-        RateRow { tick: 10, period_fs: 10_001_000 },
-        RateRow { tick: 50, period_fs: 9_999_000 },
+        RateRow {
+            tick: 10,
+            period_fs: 10_001_000,
+        },
+        RateRow {
+            tick: 50,
+            period_fs: 9_999_000,
+        },
     ];
     Osc::with_rates(3_000_000, 10_000_000, &rates)
 }

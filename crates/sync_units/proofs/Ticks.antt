@@ -1,0 +1,99 @@
+-- Ticks one after the other, and ticks at which nothing is reached.
+use Rattle.std.proofs.Common.{◌≡◌, ℕ, suc, zero, ◌+◌, ◌-◌, ◌<◌, ◌≤◌, true, List, [], ◌++◌, Option, Some, None, arith, refl, sym, ap, ap₂, ◌∙◌, add-zero, add-suc, append_assoc}
+use Rattle.std.specs.Option.{option_map, option_map_or}
+use Rattle.std.proofs.lemmas.List.{append-nil}
+use Rattle.local_clock.specs.FirstReaching.{is_behind}
+use Rattle.sync_units.specs.declared.edge.Edge.{Edge}
+use Rattle.sync_units.specs.declared.edge.Signal.TheVariants.{Sync0, Sync1}
+use Rattle.sync_units.specs.SyncRule.{Due, Armed, due_after_tick, raised, after_tick, tick_edges, after_ticks, ticks_edges}
+
+pub after_ticks-add : (w : ℕ) (copy : ℕ → ℕ) (j k : ℕ) (a : Armed)
+    → after_ticks w copy (j + k) a ≡ after_ticks w (λ i. copy (j + i)) k (after_ticks w copy j a)
+after_ticks-add w copy j zero a = rw add-zero refl
+after_ticks-add w copy j (suc k) a =
+    rw add-suc (ap (after_tick w (copy (suc (j + k)))) (after_ticks-add w copy j k a))
+
+pub ticks_edges-add : (w : ℕ) (copy time : ℕ → ℕ) (j k : ℕ) (a : Armed)
+    → ticks_edges w copy time (j + k) a
+    ≡ ticks_edges w copy time j a
+    ++ ticks_edges w (λ i. copy (j + i)) (λ i. time (j + i)) k (after_ticks w copy j a)
+ticks_edges-add w copy time j zero a = rw add-zero (sym (append-nil _))
+ticks_edges-add w copy time j (suc k) a =
+    let before = ticks_edges-add w copy time j k a in
+    let unit = after_ticks-add w copy j k a in
+    rw add-suc (rw (before, unit) (simp append_assoc))
+
+-- up to tick n no signal of the unit is reached
+pub record AreQuiet (w : ℕ) (copy : ℕ → ℕ) (n : ℕ) (a : Armed) : Type 0 where
+  pub sync0 : (i : ℕ) → 0 < i → i ≤ n → is_behind w (copy i) a.sync0.value ≡ true
+  pub sync1 : (d : Due) → a.sync1 ≡ Some d → (i : ℕ) → 0 < i → i ≤ n → is_behind w (copy i) d.value ≡ true
+
+quiet_due : (w cycle x : ℕ) (d : Due) → is_behind w x d.value ≡ true → due_after_tick w cycle x d ≡ d
+quiet_due w cycle x d behind = rw behind refl
+
+quiet_raised : (w x at : ℕ) (d : Due) → is_behind w x d.value ≡ true → raised w Sync0 x at d ≡ []
+quiet_raised w x at d behind = rw behind refl
+
+quiet_tick : (w x : ℕ) (a : Armed) → is_behind w x a.sync0.value ≡ true
+    → ((d : Due) → a.sync1 ≡ Some d → is_behind w x d.value ≡ true) → after_tick w x a ≡ a
+quiet_tick w x a h0 h1 = ap₂ (λ d e. record a { sync0 = d; sync1 = e }) (quiet_due w a.cycle x a.sync0 h0) (second a.sync1 h1)
+  where
+    second : (o : Option Due) → ((d : Due) → o ≡ Some d → is_behind w x d.value ≡ true) → option_map (due_after_tick w a.cycle x) o ≡ o
+    second None h = refl
+    second (Some d) h = ap Some (quiet_due w a.cycle x d (h d refl))
+
+quiet_edges : (w x at : ℕ) (a : Armed) → is_behind w x a.sync0.value ≡ true
+    → ((d : Due) → a.sync1 ≡ Some d → is_behind w x d.value ≡ true) → tick_edges w x at a ≡ []
+quiet_edges w x at a h0 h1 = rw h0 (second a.sync1 h1)
+  where
+    second : (o : Option Due) → ((d : Due) → o ≡ Some d → is_behind w x d.value ≡ true) → option_map_or (raised w Sync1 x at) o [] ≡ []
+    second None h = refl
+    second (Some d) h = let b = h d refl in rw b refl
+
+pub quiet_after : (w : ℕ) (copy : ℕ → ℕ) (n : ℕ) (a : Armed) → AreQuiet w copy n a → after_ticks w copy n a ≡ a
+quiet_after w copy zero a h = refl
+quiet_after w copy (suc n) a h =
+    ap (after_tick w (copy (suc n)))
+    (quiet_after w copy n a (record {
+      sync0 = λ i some le. h.sync0 i some (omega arith);
+      sync1 = λ d is i some le. h.sync1 d is i some (omega arith);
+    }))
+    ∙ quiet_tick w (copy (suc n)) a (h.sync0 (suc n) (omega arith) (omega arith))
+    (λ d is. h.sync1 d is (suc n) (omega arith) (omega arith))
+
+pub quiet_none : (w : ℕ) (copy time : ℕ → ℕ) (n : ℕ) (a : Armed) → AreQuiet w copy n a → ticks_edges w copy time n a ≡ []
+quiet_none w copy time zero a h = refl
+quiet_none w copy time (suc n) a h =
+    let less : AreQuiet w copy n a = record {
+      sync0 = λ i some le. h.sync0 i some (omega arith);
+      sync1 = λ d is i some le. h.sync1 d is i some (omega arith);
+    } in
+    ap₂ (λ (es : List Edge) (b : Armed). es ++ tick_edges w (copy (suc n)) (time (suc n)) b)
+    (quiet_none w copy time n a less) (quiet_after w copy n a less)
+    ∙ quiet_edges w (copy (suc n)) (time (suc n)) a (h.sync0 (suc n) (omega arith) (omega arith))
+    (λ d is. h.sync1 d is (suc n) (omega arith) (omega arith))
+
+-- where something may first be reached at tick n: m ticks are that one and the ticks after it
+pub first_after : (w : ℕ) (copy later : ℕ → ℕ) (n k m : ℕ) (a : Armed) → 0 < n → AreQuiet w copy (n - 1) a
+    → m ≡ n + k → later ≡ (λ i. copy (n + i))
+    → after_ticks w copy m a ≡ after_ticks w later k (after_tick w (copy n) a)
+first_after w copy later zero k m a some h is goes_on = absurd (omega arith)
+first_after w copy later (suc j) k m a some h is goes_on =
+    let e : suc j - 1 ≡ j = omega arith in
+    rw (is, goes_on)
+    (after_ticks-add w copy (suc j) k a
+    ∙ ap (λ b. after_ticks w (λ i. copy (suc j + i)) k (after_tick w (copy (suc j)) b)) (quiet_after w copy j a (rw e at h)))
+
+pub first_edges : (w : ℕ) (copy later time times : ℕ → ℕ) (n k m at : ℕ) (a : Armed) → 0 < n → AreQuiet w copy (n - 1) a
+    → m ≡ n + k → later ≡ (λ i. copy (n + i)) → times ≡ (λ i. time (n + i)) → at ≡ time n
+    → ticks_edges w copy time m a
+    ≡ tick_edges w (copy n) at a ++ ticks_edges w later times k (after_tick w (copy n) a)
+first_edges w copy later time times zero k m at a some h is goes_on times_on here = absurd (omega arith)
+first_edges w copy later time times (suc j) k m at a some h is goes_on times_on here =
+    let e : suc j - 1 ≡ j = omega arith in
+    let quiet : AreQuiet w copy j a = rw e at h in
+    rw (is, goes_on, times_on, here)
+    (ticks_edges-add w copy time (suc j) k a
+    ∙ ap₂ (λ (es : List Edge) (b : Armed). es ++ tick_edges w (copy (suc j)) (time (suc j)) b
+    ++ ticks_edges w (λ i. copy (suc j + i)) (λ i. time (suc j + i)) k (after_tick w (copy (suc j)) b))
+    (quiet_none w copy time j a quiet) (quiet_after w copy j a quiet))

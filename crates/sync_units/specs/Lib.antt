@@ -1,0 +1,7 @@
+pub mod SyncRule
+pub mod ClockCopy
+pub mod KeptEdges
+pub mod Edges
+pub mod NextEdge
+pub mod Interval
+pub mod Calls

@@ -1,0 +1,165 @@
+ghost use Rattle.std.specs.Prelude.{◌≡◌, ◌≤◌, ◌+◌, ⊤, true, [], Some, MatchOption};
+ghost use Rattle.std.specs.Option.{option_map, option_map_or};
+ghost use Rattle.osc_clock.specs.Ticks.{IsRunning};
+ghost use Rattle.local_clock.specs.Reading.{ticks_to};
+ghost use Rattle.local_clock.specs.FirstReaching.{is_behind, tick_after};
+ghost use Rattle.sync_units.specs.ClockCopy.{copy_of, copy_after};
+ghost use Rattle.sync_units.specs.SyncRule.{Due, armed_by, due_after_tick, raised, after_tick, tick_edges, after_ticks, ticks_edges};
+ghost use Rattle.sync_units.specs.KeptEdges.{put_all};
+ghost use Rattle.sync_units.specs.NextEdge.{IsNextEdge, IsNextEdge1, IsNextUnlessNow, IsNextUnlessNow1, IsFrom, IsFirst};
+
+use crate::edge::Signal;
+use crate::edge_list::EdgeList;
+use crate::next_due::NextDue;
+use local_clock::LocalClock;
+use std::alloc::AllocError;
+use std::marker::Model;
+use wrap_time::ClockWord;
+
+// When each signal has its next edge, in fs.
+#[derive(Clone, Copy)]
+struct NextEdges {
+    sync0: Option<u64>,
+    sync1: Option<u64>,
+}
+
+impl NextEdges {
+    // The earlier of them, if it is at or before t.
+    fn first_until(self, t: u64) -> Option<u64>
+        ensures { MatchOption result (IsFrom (t + 1) self.sync0 × IsFrom (t + 1) self.sync1)
+            (λ n. IsFirst t n self.sync0 self.sync1) }
+    {
+        let first = match (self.sync0, self.sync1) {
+            (Some(a), Some(b)) => a.min(b),
+            (Some(only), None) | (None, Some(only)) => only,
+            (None, None) => return None,
+        };
+        if first <= t { Some(first) } else { None }
+    }
+}
+
+/// A unit that is armed.
+#[derive(Copy)]
+pub(crate) struct ArmedUnit<W: ClockWord> {
+    cycle: u32,
+    sync0: NextDue<W>,
+    sync1: Option<NextDue<W>>,
+}
+
+impl<W: ClockWord> Model for ArmedUnit<W> {
+    ghost use Rattle.sync_units.specs.SyncRule.{Armed};
+
+    ghost Value = { Armed };
+
+    ghost view = { λ a. record { cycle = a.cycle; sync0 = a.sync0; sync1 = a.sync1 } };
+
+    ghost inverse = { λ a. record { cycle = a.cycle; sync0 = a.sync0; sync1 = a.sync1 } };
+}
+
+impl<W: ClockWord> Clone for ArmedUnit<W> {
+    ghost is_clone = { λ x y. y ≡ x };
+
+    ghost is_infallible = { λ _. ⊤ };
+
+    fn clone(&self) -> Result<Self, AllocError> {
+        Ok(*self)
+    }
+}
+
+impl<W: ClockWord> ArmedUnit<W> {
+    /// A unit that begins with edge 0 of each signal.
+    pub(crate) fn new(start: W, cycle: u32, sync1: Option<u32>) -> Self
+        ensures { result ≡ armed_by W.WIDTH (W.number start) cycle sync1 }
+    {
+        ArmedUnit {
+            cycle,
+            sync0: NextDue::first(start),
+            sync1: sync1.map(|time| NextDue::first(start.add(u64::from(time)))),
+        }
+    }
+
+    /// The word at which SYNC0 is next due.
+    pub(crate) fn next_due(&self) -> W
+        ensures { W.number result ≡ self.now.sync0.value }
+    {
+        self.sync0.value()
+    }
+
+    /// Raises the edges of the clock's ticks up to `t` into the list.
+    pub(crate) fn edges_until(
+        &mut self,
+        clock: &LocalClock<W>,
+        offset: W,
+        t: u64,
+        list: &mut EdgeList,
+    )
+        requires { clock.now.instant ≤ t }
+        ensures unit { self.new
+            ≡ after_ticks W.WIDTH (copy_after W.WIDTH clock.now (W.number offset)) (ticks_to clock.now t) self.old }
+        ensures list { let copy = copy_after W.WIDTH clock.now (W.number offset) in
+            list.new ≡ put_all (ticks_edges W.WIDTH copy (tick_after clock.now) (ticks_to clock.now t) self.old) list.old }
+    {
+        let mut clock = *clock;
+        let mut next = self.next_edges(&clock, offset);
+        while let Some(tick) = next.first_until(t) {
+            clock.advance(tick);
+            next = self.take_tick(&clock, offset, next, list);
+        }
+    }
+
+    // When each signal has its next edge.
+    fn next_edges(&self, clock: &LocalClock<W>, offset: W) -> NextEdges
+        ensures sync0 { IsNextEdge W.WIDTH clock.now (W.number offset) self.now.sync0.value result.sync0 }
+        ensures sync1 { IsNextEdge1 W.WIDTH clock.now (W.number offset) self.now.sync1 result.sync1 }
+        ensures running { IsRunning clock.now.osc }
+    {
+        NextEdges {
+            sync0: self.sync0.next_edge(clock, offset),
+            sync1: self.sync1.and_then(|due| due.next_edge(clock, offset)),
+        }
+    }
+
+    // Takes the tick at which the clock stands, as `NextDue::take_tick` does for each signal.
+    fn take_tick(
+        &mut self,
+        clock: &LocalClock<W>,
+        offset: W,
+        next: NextEdges,
+        list: &mut EdgeList,
+    ) -> NextEdges
+        ensures unit { self.new ≡ after_tick W.WIDTH (copy_of W.WIDTH clock.now (W.number offset)) self.old }
+        ensures list { let copy = copy_of W.WIDTH clock.now (W.number offset) in
+            list.new ≡ put_all (tick_edges W.WIDTH copy clock.now.instant self.old) list.old }
+        ensures sync0 { IsNextUnlessNow W.WIDTH clock.now (W.number offset) self.old.sync0.value next.sync0
+            → IsNextEdge W.WIDTH clock.now (W.number offset) self.new.sync0.value result.sync0 }
+        ensures sync1 { IsNextUnlessNow1 W.WIDTH clock.now (W.number offset) self.old.sync1 next.sync1
+            → IsNextEdge1 W.WIDTH clock.now (W.number offset) self.new.sync1 result.sync1 }
+    {
+        let sync0 = self
+            .sync0
+            .take_tick(Signal::Sync0, self.cycle, clock, offset, next.sync0, list);
+        let sync1 = self.take_tick1(clock, offset, next.sync1, list);
+        NextEdges { sync0, sync1 }
+    }
+
+    // Takes the tick at which the clock stands for SYNC1, as `NextDue::take_tick` does.
+    fn take_tick1(
+        &mut self,
+        clock: &LocalClock<W>,
+        offset: W,
+        next: Option<u64>,
+        list: &mut EdgeList,
+    ) -> Option<u64>
+        ensures unit { let copy = copy_of W.WIDTH clock.now (W.number offset) in
+            self.new ≡ record self.old { sync1 = option_map (due_after_tick W.WIDTH self.old.cycle copy) self.old.sync1 } }
+        ensures list { let copy = copy_of W.WIDTH clock.now (W.number offset) in
+            list.new ≡ put_all (option_map_or (raised W.WIDTH Signal.Sync1 copy clock.now.instant) self.old.sync1 []) list.old }
+        ensures next { IsNextUnlessNow1 W.WIDTH clock.now (W.number offset) self.old.sync1 next
+            → IsNextEdge1 W.WIDTH clock.now (W.number offset) self.new.sync1 result }
+    {
+        let mut due = self.sync1?;
+        let next = due.take_tick(Signal::Sync1, self.cycle, clock, offset, next, list);
+        self.sync1 = Some(due);
+        next
+    }
+}

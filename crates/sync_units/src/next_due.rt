@@ -1,0 +1,104 @@
+ghost use Rattle.std.specs.Prelude.{◌≡◌, true, ⊤};
+ghost use Rattle.osc_clock.specs.Ticks.{IsRunning};
+ghost use Rattle.local_clock.specs.FirstReaching.{is_behind};
+ghost use Rattle.sync_units.specs.ClockCopy.{copy_of};
+ghost use Rattle.sync_units.specs.SyncRule.{first_due, due_after_tick, raised};
+ghost use Rattle.sync_units.specs.KeptEdges.{put_all};
+ghost use Rattle.sync_units.specs.NextEdge.{IsNextEdge, IsNextUnlessNow};
+
+use crate::edge::Signal;
+use crate::edge_list::EdgeList;
+use local_clock::LocalClock;
+use std::alloc::AllocError;
+use std::marker::Model;
+use wrap_time::ClockWord;
+
+/// What a signal is waiting for: the word at which its next edge is due, and the index of that edge.
+#[derive(Copy)]
+pub(crate) struct NextDue<W: ClockWord> {
+    value: W,
+    index: u64,
+}
+
+impl<W: ClockWord> Model for NextDue<W> {
+    ghost use Rattle.sync_units.specs.SyncRule.{Due};
+
+    ghost Value = { Due };
+
+    ghost use Rattle.std.specs.Prelude.{◌≡◌, ◌≤◌, ◌^◌};
+
+    ghost view = { λ a. record { value = W.number a.value; index = a.index } };
+
+    ghost invariant = { λ a. (a.index ≤ 2 ^ 32) × (W.word (W.number a.value) ≡ a.value) };
+
+    ghost inverse = { λ d. record { value = W.word d.value; index = d.index } };
+
+    ghost use Rattle.std.proofs.Common.{ap};
+
+    ghost inverse_ok = { λ a h. ap (λ v. record a { value = v }) h.1 };
+}
+
+impl<W: ClockWord> Clone for NextDue<W> {
+    ghost is_clone = { λ x y. y ≡ x };
+
+    ghost is_infallible = { λ _. ⊤ };
+
+    fn clone(&self) -> Result<Self, AllocError> {
+        Ok(*self)
+    }
+}
+
+impl<W: ClockWord> NextDue<W> {
+    /// Edge 0, due at this word.
+    pub(crate) fn first(value: W) -> Self
+        ensures { result ≡ first_due (W.number value) }
+    {
+        NextDue { value, index: 0 }
+    }
+
+    /// The word at which the next edge is due.
+    pub(crate) fn value(&self) -> W
+        ensures { W.number result ≡ self.now.value }
+    {
+        self.value
+    }
+
+    /// The instant of the next edge, in fs, where nothing else happens to the clock; `None` where
+    /// that is above 2^64 - 1.
+    pub(crate) fn next_edge(&self, clock: &LocalClock<W>, offset: W) -> Option<u64>
+        ensures at { IsNextEdge W.WIDTH clock.now (W.number offset) self.now.value result }
+        ensures running { IsRunning clock.now.osc }
+    {
+        // the local copy has reached the due value where the local time has reached this
+        let target = W::cut(self.value.value().wrapping_sub(offset.value()));
+        clock.first_reaching(target)
+    }
+
+    /// Takes the tick at which the clock stands: raises the edge if the local copy has reached the due
+    /// value, and answers the instant of the edge that then is the next one. `next` is what to answer
+    /// if no edge is raised.
+    pub(crate) fn take_tick(
+        &mut self,
+        signal: Signal,
+        cycle: u32,
+        clock: &LocalClock<W>,
+        offset: W,
+        next: Option<u64>,
+        list: &mut EdgeList,
+    ) -> Option<u64>
+        ensures due { self.new ≡ due_after_tick W.WIDTH cycle (copy_of W.WIDTH clock.now (W.number offset)) self.old }
+        ensures list { let copy = copy_of W.WIDTH clock.now (W.number offset) in
+            list.new ≡ put_all (raised W.WIDTH signal copy clock.now.instant self.old) list.old }
+        ensures next { IsNextUnlessNow W.WIDTH clock.now (W.number offset) self.old.value next
+            → IsNextEdge W.WIDTH clock.now (W.number offset) self.new.value result }
+    {
+        let copy = clock.reading().add(offset.value());
+        if copy.diff(self.value) < 0 {
+            return next;
+        }
+        list.put(signal, self.index, clock.now());
+        self.value = self.value.add(u64::from(cycle));
+        self.index = (self.index + 1).min(1 << 32);
+        self.next_edge(clock, offset)
+    }
+}
