@@ -1,3 +1,5 @@
 pub mod Sizes
 pub mod IntervalFacts
 pub mod Growth
+pub mod Climbing
+pub mod WeightSize

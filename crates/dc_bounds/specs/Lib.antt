@@ -4,3 +4,4 @@ pub mod CopyBound
 pub mod DelayBound
 pub mod RunNumbers
 pub mod TickFacts
+pub mod Weight

@@ -1,10 +1,13 @@
 //! Laws over the definitions alone, for proofs of the layers above.
 
-ghost use Rattle.std.specs.Prelude.{◌≡◌, ℕ, ◌+◌, ◌-◌, ◌*◌, ◌<◌, ◌≤◌};
+ghost use Rattle.std.specs.Prelude.{◌≡◌, ℕ, ◌+◌, ◌-◌, ◌*◌, ◌<◌, ◌≤◌, Bool, List, length};
 ghost use Rattle.osc_clock.specs.Ticks.{Oscillator, IsRunning, ticks};
 ghost use Rattle.dc_bounds.specs.TickBounds.{tick_gap, count_gap, least_ticks, jump};
 ghost use Rattle.dc_bounds.specs.TickFacts.{AreTicksOf, IsNear, IsWithin};
 ghost use Rattle.dc_bounds.specs.LockNumbers.{period_fs};
+ghost use Rattle.cable_tree.specs.Kept.{IsSegment};
+ghost use Rattle.cable_tree.specs.Row.{Row};
+ghost use Rattle.dc_bounds.specs.Weight.{weight};
 ghost use Rattle.dc_bounds.specs.DelayBound.{delay_bound};
 ghost use Rattle.dc_bounds.specs.CopyBound.{copy_bound};
 
@@ -43,4 +46,10 @@ pub fn quarter_period()
     ensures { (ppm frame_ns loss_run weight round_trip delay l : ℕ) → ppm ≤ 100 → 50000 ≤ frame_ns → loss_run ≤ 15
         → weight ≤ 1024 → round_trip < period_fs frame_ns → delay ≤ round_trip → l ≤ 784 * period_fs frame_ns
         → 4 * (tick_gap ppm l + copy_bound ppm frame_ns loss_run (delay_bound ppm weight round_trip) delay) ≤ period_fs frame_ns }
+{}
+
+/// No clock of a segment of at most 256 slaves has a weight above 1024, whatever slaves measure and are
+/// clocks.
+pub fn weights_are_few()
+    ensures { (rows : List Row) (measures timed : ℕ → Bool) (r : ℕ) → IsSegment rows → r < length rows → weight rows measures timed r ≤ 1024 }
 {}

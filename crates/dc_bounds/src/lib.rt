@@ -15,12 +15,14 @@ pub mod laws;
 mod lock;
 mod run;
 mod ticks;
+mod weights;
 
 pub use copies::{copy_bound, window};
 pub use delays::delay_bound;
 pub use lock::{lock_count, lock_step, reach_fs};
 pub use run::{lead_ns, run_frames};
 pub use ticks::{jump, least_ticks, tick_gap};
+pub use weights::weight;
 
 #[cfg(test)]
 mod tests;

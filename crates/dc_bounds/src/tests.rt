@@ -4,9 +4,12 @@
 ghost use Rattle.std.specs.Prelude.{◌≤◌, ◌^◌};
 
 use super::{
-    copy_bound, delay_bound, jump, lead_ns, least_ticks, lock_count, lock_step, reach_fs,
-    run_frames, tick_gap, window,
+    copy_bound, delay_bound, jump, laws, lead_ns, least_ticks, lock_count, lock_step, reach_fs,
+    run_frames, tick_gap, weight, window,
 };
+use cable_tree::{Above, Port, Tree, TreeRow};
+use std::alloc::Global;
+use std::process::Abort;
 
 const FAR_FS: u128 = 100_000_000_000_000_000_000;
 
@@ -113,5 +116,79 @@ fn lengths_of_a_run(rt: HostRuntime) {
     assert_eq!(rt;
         run_frames(256, 15, 10_000_000, 4_294_967_295, 100_000),
         42_994_271
+    );
+}
+
+fn at(row: u16, port: Port) -> Option<Above> {
+    Some(Above { row, port })
+}
+
+/// The weight of each clock among slaves that hang so.
+fn weights(
+    rt: &impl Abort,
+    alloc: Global,
+    hangs: &[Option<Above>],
+    measuring: &[bool],
+    timed: &[bool],
+) -> Vec<u32> {
+    let mut rows = Vec::new(alloc);
+    for above in hangs {
+        let row = TreeRow::new(*above, 310, 300, 50_000).expect(rt, "within the limits");
+        rows.push(row).expect(rt, "memory for the rows");
+    }
+    assert!(rt; rows.len() <= 256);
+    let tree = Tree::new(alloc, &rows).expect(rt, "a tree");
+    assert!(rt; measuring.len() == tree.len() && timed.len() == tree.len());
+    let mut weights = Vec::new(alloc);
+    for row in 0..tree.len() as u16 {
+        if timed[usize::from(row)] {
+            let weight = weight(&tree, measuring, timed, row);
+            weights.push(weight).expect(rt, "memory for the weights");
+        }
+    }
+    weights
+}
+
+#[test]
+fn weights_worked_out_by_hand(rt: HostRuntime) {
+    laws::ticks_in_interval();
+    laws::two_clocks();
+    laws::bounds_rise();
+    laws::sizes();
+    laws::quarter_period();
+    laws::weights_are_few();
+
+    // three clocks around the reference, which is row 3, at its ports 2, 1 and 3
+    let star = [at(3, Port::P2), at(3, Port::P1), at(3, Port::P3), None];
+    let all = [true; 4];
+    assert_eq!(rt;
+        weights(&rt, rt.alloc(), &star, &all, &all).as_slice(),
+        [2, 3, 2, 0].as_slice()
+    );
+
+    // a root that only measures, and clocks at its ports: the ways part above the reference, which is at port 3
+    let clocks = [true, true, true, false];
+    assert_eq!(rt;
+        weights(&rt, rt.alloc(), &star, &all, &clocks).as_slice(),
+        [4, 5, 0].as_slice()
+    );
+
+    // a line whose second slave has no clock, and then one whose second slave has
+    let line = [None, at(0, Port::P1), at(1, Port::P1), at(2, Port::P1)];
+    let ends = [true, false, true, true];
+    assert_eq!(rt;
+        weights(&rt, rt.alloc(), &line, &ends, &ends).as_slice(),
+        [0, 2, 1].as_slice()
+    );
+    assert_eq!(rt;
+        weights(&rt, rt.alloc(), &line, &all, &all).as_slice(),
+        [0, 2, 2, 1].as_slice()
+    );
+
+    // no clock at all
+    let none = [false; 4];
+    assert_eq!(rt;
+        weights(&rt, rt.alloc(), &line, &none, &none).as_slice(),
+        [].as_slice()
     );
 }

@@ -1,18 +1,22 @@
-//! What clocks and SYNC units cost: the work that `bench/clock.sh` times.
+//! The work that the scripts in `bench/` time.
 //!
 //! - `advance FS TIMES` advances so many clocks from true time 0 by so many fs, while each works off a
 //!   difference, and writes the sum of what they show.
 //! - `edges FS` lets a unit raise its edges up to a true time, while its clock works off a difference,
 //!   and writes how many edges there are of both signals, and when the last one is.
+//! - `trees TIMES` makes so many trees of 256 slaves, half of them a line and half of them with three
+//!   children to a slave, and writes the sum of all their path sums.
 #![tactic(auto)]
 
-use local_clock::LocalClock;
-use osc_clock::{Osc, RateRow};
+mod clocks;
+mod trees;
+
+use clocks::{advanced, raise};
 use std::process::ExitCode;
 use std::rt::Env;
 use std::{env, io};
-use sync_units::{EdgeList, SyncUnit};
-use wrap_time::{ClockWord, T64};
+use sync_units::EdgeList;
+use trees::path_sums;
 
 fn main(rt: HostRuntime) -> ExitCode {
     match words(&rt) {
@@ -45,44 +49,10 @@ fn run(rt: &HostRuntime, words: &[String]) -> Option<()> {
             let last = list.edges().last()?;
             println!(rt; "{} {}", list.edges().len(), last.time_fs).ok()
         }
+        [what, times] if what.as_str() == "trees" => {
+            let sum = path_sums(rt.alloc(), times.parse().ok()?)?;
+            println!(rt; "{sum}").ok()
+        }
         _ => None,
     }
-}
-
-// An oscillator whose period changes twice within the first microsecond.
-fn oscillator() -> Option<Osc> {
-    let rates = [
-        RateRow {
-            tick: 10,
-            period_fs: 10_001_000,
-        },
-        RateRow {
-            tick: 50,
-            period_fs: 9_999_000,
-        },
-    ];
-    Osc::with_rates(3_000_000, 10_000_000, &rates)
-}
-
-// The sum of the readings of so many clocks.
-fn advanced(time_fs: u64, times: u64) -> Option<u64> {
-    let osc = oscillator()?;
-    let mut sum: u64 = 0;
-    for start in 0..times {
-        let mut clock = LocalClock::new(osc, T64::cut(start), 64);
-        clock.receive(1_000_000);
-        clock.advance(time_fs);
-        sum = sum.wrapping_add(clock.reading().value());
-    }
-    Some(sum)
-}
-
-// The edges of a unit with a cycle of 1 ms, from 1 ms on.
-fn raise(time_fs: u64, list: &mut EdgeList) -> Option<()> {
-    let mut clock = LocalClock::new(oscillator()?, T64::cut(0), 64);
-    clock.receive(1_000_000);
-    let mut unit = SyncUnit::new();
-    unit.arm(T64::cut(1_000_000), 1_000_000, Some(250_000));
-    unit.edges_until(&clock, T64::cut(0), time_fs, list);
-    Some(())
 }

@@ -1,0 +1,10 @@
+pub mod Children
+pub mod Levels
+pub mod Rising
+pub mod Members
+pub mod Checked
+pub mod Walking
+pub mod Bounds
+pub mod Tables
+pub mod Refused
+pub mod Laps

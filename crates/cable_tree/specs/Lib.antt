@@ -1,0 +1,11 @@
+pub mod Row
+pub mod InsideRow
+pub mod Segment
+pub mod Refusals
+pub mod FrameOrder
+pub mod PathSums
+pub mod Kept
+pub mod InsideWiring
+pub mod InsideTree
+pub mod Hops
+pub mod WalkStack
