@@ -1,0 +1,3 @@
+pub mod DlStatus
+pub mod Listed
+pub mod Refusals

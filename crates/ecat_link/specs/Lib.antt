@@ -1,0 +1,5 @@
+pub mod Exchanges
+pub mod Serves
+pub mod ScriptState
+pub mod RoseBy
+pub mod Repeated
