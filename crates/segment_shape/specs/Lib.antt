@@ -1,0 +1,14 @@
+pub mod Paths
+pub mod Values
+pub mod Keys
+pub mod Rows
+pub mod Head
+pub mod Rates
+pub mod Slaves
+pub mod Losses
+pub mod Marks
+pub mod Twice
+pub mod ShapeOf
+pub mod Ranges
+pub mod Seen
+pub mod Told
