@@ -5,3 +5,4 @@ pub mod DelayBound
 pub mod RunNumbers
 pub mod TickFacts
 pub mod Weight
+pub mod Measurable
