@@ -3,3 +3,4 @@ pub mod IntervalFacts
 pub mod Growth
 pub mod Climbing
 pub mod WeightSize
+pub mod Leading

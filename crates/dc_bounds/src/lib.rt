@@ -13,6 +13,7 @@ mod copies;
 mod delays;
 pub mod laws;
 mod lock;
+mod measurable;
 mod run;
 mod ticks;
 mod weights;
@@ -20,9 +21,10 @@ mod weights;
 pub use copies::{copy_bound, window};
 pub use delays::delay_bound;
 pub use lock::{lock_count, lock_step, reach_fs};
+pub use measurable::unmeasurable;
 pub use run::{lead_ns, run_frames};
 pub use ticks::{jump, least_ticks, tick_gap};
-pub use weights::weight;
+pub use weights::{reference, weight};
 
 #[cfg(test)]
 mod tests;

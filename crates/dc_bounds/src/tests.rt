@@ -5,7 +5,7 @@ ghost use Rattle.std.specs.Prelude.{◌≤◌, ◌^◌};
 
 use super::{
     copy_bound, delay_bound, jump, laws, lead_ns, least_ticks, lock_count, lock_step, reach_fs,
-    run_frames, tick_gap, weight, window,
+    reference, run_frames, tick_gap, unmeasurable, weight, window,
 };
 use cable_tree::{Above, Port, Tree, TreeRow};
 use std::alloc::Global;
@@ -123,6 +123,17 @@ fn at(row: u16, port: Port) -> Option<Above> {
     Some(Above { row, port })
 }
 
+/// The tree of slaves that hang so.
+fn tree(rt: &impl Abort, alloc: Global, hangs: &[Option<Above>]) -> Tree {
+    let mut rows = Vec::new(alloc);
+    for above in hangs {
+        let row = TreeRow::new(*above, 310, 300, 50_000).expect(rt, "within the limits");
+        rows.push(row).expect(rt, "memory for the rows");
+    }
+    assert!(rt; rows.len() <= 256);
+    Tree::new(alloc, &rows).expect(rt, "a tree")
+}
+
 /// The weight of each clock among slaves that hang so.
 fn weights(
     rt: &impl Abort,
@@ -131,13 +142,7 @@ fn weights(
     measuring: &[bool],
     timed: &[bool],
 ) -> Vec<u32> {
-    let mut rows = Vec::new(alloc);
-    for above in hangs {
-        let row = TreeRow::new(*above, 310, 300, 50_000).expect(rt, "within the limits");
-        rows.push(row).expect(rt, "memory for the rows");
-    }
-    assert!(rt; rows.len() <= 256);
-    let tree = Tree::new(alloc, &rows).expect(rt, "a tree");
+    let tree = tree(rt, alloc, hangs);
     assert!(rt; measuring.len() == tree.len() && timed.len() == tree.len());
     let mut weights = Vec::new(alloc);
     for row in 0..tree.len() as u16 {
@@ -190,5 +195,53 @@ fn weights_worked_out_by_hand(rt: HostRuntime) {
     assert_eq!(rt;
         weights(&rt, rt.alloc(), &line, &none, &none).as_slice(),
         [].as_slice()
+    );
+}
+
+/// The reference and the slave that cannot be measured, among slaves that hang so.
+fn judged(
+    rt: &impl Abort,
+    alloc: Global,
+    hangs: &[Option<Above>],
+    measuring: &[bool],
+    timed: &[bool],
+) -> (Option<u16>, Option<u16>) {
+    let tree = tree(rt, alloc, hangs);
+    assert!(rt; measuring.len() == tree.len() && timed.len() == tree.len());
+    (reference(&tree, timed), unmeasurable(&tree, measuring))
+}
+
+#[test]
+fn slaves_that_cannot_be_measured(rt: HostRuntime) {
+    // row 3 is the root, with row 2 at port 3, row 1 at port 1 and row 0 at port 2
+    let star = [at(3, Port::P2), at(3, Port::P1), at(3, Port::P3), None];
+    let leaves = [true, true, true, false];
+    let all = [true; 4];
+    assert_eq!(rt;
+        judged(&rt, rt.alloc(), &star, &all, &leaves),
+        (Some(2), None)
+    );
+    // nothing measures above the slaves behind the first one
+    assert_eq!(rt;
+        judged(&rt, rt.alloc(), &star, &leaves, &leaves),
+        (Some(2), Some(1))
+    );
+    // row 1 lies between the root and the others: with two children it cannot be passed, with one it can
+    let fork = [at(1, Port::P3), None, at(0, Port::P1), at(0, Port::P2)];
+    let ends = [false, true, true, true];
+    let line = [at(1, Port::P3), None, at(0, Port::P1), at(2, Port::P2)];
+    assert_eq!(rt;
+        judged(&rt, rt.alloc(), &fork, &ends, &ends),
+        (Some(1), Some(2))
+    );
+    assert_eq!(rt;
+        judged(&rt, rt.alloc(), &line, &ends, &ends),
+        (Some(1), None)
+    );
+    // the first slave that measures needs none above it
+    let last = [false, false, false, true];
+    assert_eq!(rt;
+        judged(&rt, rt.alloc(), &line, &last, &last),
+        (Some(3), None)
     );
 }

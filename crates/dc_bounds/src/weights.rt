@@ -21,8 +21,9 @@ pub fn weight(tree: &Tree, measuring: &[bool], timed: &[bool], row: u16) -> u32
     weight_below(tree, measuring, parting, row) + weight_below(tree, measuring, parting, reference)
 }
 
-// The first clock in frame order.
-fn reference(tree: &Tree, timed: &[bool]) -> Option<u16>
+/// The reference: the first clock in frame order. None comes exactly where there is no clock. `timed` says of
+/// each row whether the slave is a clock.
+pub fn reference(tree: &Tree, timed: &[bool]) -> Option<u16>
     requires timed { length timed.now ≡ length tree.now }
     ensures is { result ≡ reference tree.now (flag timed.now) }
     ensures row { IfSome result (λ r. r < length tree.now) }
@@ -156,7 +157,7 @@ fn is_leaf(tree: &Tree, row: u16) -> bool
 }
 
 // Whether a slave hangs at this port.
-fn is_connected(tree: &Tree, row: u16, port: Port) -> bool
+pub(crate) fn is_connected(tree: &Tree, row: u16, port: Port) -> bool
     requires { row < length tree.now }
     ensures { result ≡ is_connected tree.now row port }
 {
