@@ -29,7 +29,7 @@ pub use loss_row::{LossRow, Phase};
 pub use segment_head::Head;
 pub use shape::{Shape, read_shape};
 pub use shape_error::ShapeError;
-pub use slave_row::{Parent, ShapeRow};
+pub use slave_row::{Parent, ShapeRow, has_clock, measures};
 
 #[cfg(test)]
 mod tests;

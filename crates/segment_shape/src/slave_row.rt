@@ -71,8 +71,8 @@ pub(crate) struct Times {
     sync1_ns: Option<u32>,
 }
 
-/// Whether a slave takes receive times.
-fn measures(kind: ClockKind) -> bool
+/// Whether a slave of this kind takes receive times.
+pub fn measures(kind: ClockKind) -> bool
     ensures { result ≡ measures kind }
 {
     match kind {
@@ -81,8 +81,8 @@ fn measures(kind: ClockKind) -> bool
     }
 }
 
-/// Whether a slave has a clock that can be set.
-fn has_clock(kind: ClockKind) -> bool
+/// Whether a slave of this kind is a clock: it has a system time.
+pub fn has_clock(kind: ClockKind) -> bool
     ensures { result ≡ has_clock kind }
 {
     match kind {

@@ -1,0 +1,93 @@
+-- What a legal segment has.
+use Rattle.std.specs.Prelude.{◌≡◌, ℕ, zero, suc, ◌+◌, ◌*◌, ◌<◌, ◌≤◌, ℤ, pos, ◌≤ℤ◌, int_lt, nat_le, nat_lt, Bool, true, false, cond, if◌then◌else◌, ◌||◌, List, [], ◌∷◌, length, map, count_by, Option, Some, None, option_map, slice_index_or}
+use Rattle.std.specs.List.{find}
+use Rattle.std.specs.Option.{is_none}
+use Rattle.std.proofs.Common.{arith, refl, subst, sym}
+use Rattle.std.proofs.lemmas.Bool.Decides.{nat_tests}
+use Rattle.std.proofs.lemmas.Int.{ints}
+use Rattle.cable_tree.specs.Row.{Row}
+use Rattle.cable_tree.specs.FrameOrder.{order}
+use Rattle.dc_bounds.specs.Weight.{reference}
+use Rattle.segment_shape.specs.Head.{HeadValue}
+use Rattle.segment_shape.specs.declared.loss_row.LossRow.{LossRow}
+use Rattle.segment_file.specs.declared.counts.Counts.{Counts}
+use Rattle.std.proofs.lemmas.List.{length-map}
+use Rattle.segment_file.specs.Segment.{RowValue, SegmentValue, is_clock, clocks, clock_at, counts_of, tree_row, tree_rows, reference_row}
+use Rattle.segment_file.specs.Runs.{first_run}
+use Rattle.segment_file.specs.Counted.{IsCounted}
+use Rattle.segment_file.specs.Legal.{IsLegal}
+use Rattle.segment_file.proofs.CountLemmas.{count_by-cons, counted}
+use Rattle.segment_file.specs.Faults.{Fault, no_lock, too_slow, lead, too_much, loss_run, first_of, fault_if, clock_fault, time_fault, fault_of, frame_fault, step_of, lock_in, frames_of_run, most_frames}
+
+-- none of two faults
+neither : (f g : Option Fault) → first_of f g ≡ None → (f ≡ None) × (g ≡ None)
+neither None g e = (refl, e)
+neither (Some fault) g e = absurd cc
+
+unfound : (fault : Fault) (b : Bool) → fault_if fault b ≡ None → b ≡ false
+unfound fault true e = absurd cc
+unfound fault false e = refl
+
+-- a flag that is set is that of an element that passes
+counted_one : {X : Type 0} (p : X → Bool) (xs : List X) (r : ℕ) → slice_index_or (map p xs) r false ≡ true → 1 ≤ count_by p xs
+counted_one p [] r e = absurd cc
+counted_one p (x ∷ xs) zero e =
+    let one : ℕ = 1 in
+    let here : (if p x then one else 0) ≡ one = rw e refl in
+    omega (arith, here, count_by-cons p x xs)
+counted_one p (x ∷ xs) (suc r) e = omega (arith, counted_one p xs r e, count_by-cons p x xs)
+
+found_case : (p : ℕ → Bool) (x r : ℕ) (rest : Option ℕ) (b : Bool) → p x ≡ b → cond b (Some x) rest ≡ Some r → (rest ≡ Some r → p r ≡ true) → p r ≡ true
+found_case p x r rest true is e on = let same : x ≡ r = cc in subst (λ y. p y ≡ true) same is
+found_case p x r rest false is e on = on e
+
+found_passes : (p : ℕ → Bool) (xs : List ℕ) (r : ℕ) → find p xs ≡ Some r → p r ≡ true
+found_passes p [] r e = absurd cc
+found_passes p (x ∷ xs) r e = found_case p x r (find p xs) (p x) refl e (λ h. found_passes p xs r h)
+
+-- the reference is one of the clocks
+pub some_clock : (rows : List RowValue) (r : ℕ) → reference_row rows ≡ Some r → 1 ≤ clocks rows
+some_clock rows r e = counted_one is_clock rows r (found_passes (clock_at rows) (order (tree_rows rows)) r e)
+
+not_below : (z : ℤ) → int_lt z (pos 1) ≡ false → pos 1 ≤ℤ z
+not_below z e = grind (arith, ints)
+
+-- the clocks come together
+pub some_step : (h : HeadValue) (c : Counts) (rows : List Row) → time_fault h c rows ≡ None → pos 1 ≤ℤ step_of h
+unfolding time_fault
+some_step h c rows e = not_below (step_of h) (unfound no_lock (int_lt (step_of h) (pos 1)) (neither _ _ (neither _ _ e).1).0)
+
+neither_test : (a b : Bool) → (a || b) ≡ false → (a ≡ false) × (b ≡ false)
+neither_test true b e = absurd cc
+neither_test false b e = (refl, e)
+
+few_by : (x y : ℕ) (run : Option Fault) → first_of run (fault_if too_much (nat_lt 100000 x || nat_lt 200000 y)) ≡ None → x ≤ 100000
+few_by x y run e =
+    let both = neither run (fault_if too_much (nat_lt 100000 x || nat_lt 200000 y)) e in
+    let test = neither_test (nat_lt 100000 x) (nat_lt 200000 y) (unfound too_much (nat_lt 100000 x || nat_lt 200000 y) both.1) in
+    grind (arith, nat_tests, test.0)
+
+-- the frames of a run are few
+few_frames : (h : HeadValue) (c : Counts) (losses : List LossRow) → frame_fault h c losses ≡ None → most_frames h c ≤ 100000
+unfolding frame_fault
+few_frames h c losses e = few_by (most_frames h c) (h.cycles * c.signals) (option_map loss_run (first_run losses (h.loss_run + 1))) e
+
+-- the three kinds of fault
+pub faultless : (s : SegmentValue) → fault_of s ≡ None
+    → (clock_fault s.head.ppm s.rows ≡ None) × (time_fault s.head (counts_of s.rows) (tree_rows s.rows) ≡ None) × (frame_fault s.head (counts_of s.rows) s.losses ≡ None)
+faultless s e = let clocks = neither _ _ e in let times = neither _ _ clocks.1 in (clocks.0, times.0, times.1)
+
+pub legal_step : (s : SegmentValue) → IsLegal s → pos 1 ≤ℤ step_of s.head
+legal_step s legal = some_step s.head (counts_of s.rows) (tree_rows s.rows) (faultless s legal.faultless).1
+
+pub legal_counts : (s : SegmentValue) → IsLegal s → IsCounted (counts_of s.rows)
+legal_counts s legal = counted s.rows (omega (arith, legal.tree.few, length-map s.rows tree_row))
+
+pub legal_frames : (s : SegmentValue) → IsLegal s → most_frames s.head (counts_of s.rows) ≤ 100000
+legal_frames s legal = few_frames s.head (counts_of s.rows) s.losses (faultless s legal.faultless).2
+
+pub few_to_lock : (s : SegmentValue) → IsLegal s → lock_in s.head (counts_of s.rows) ≤ 100000
+few_to_lock s legal = omega (arith, legal_frames s legal)
+
+pub few_in_run : (s : SegmentValue) → IsLegal s → frames_of_run s.head (counts_of s.rows) ≤ 100000
+few_in_run s legal = omega (arith, legal_frames s legal)

@@ -1,0 +1,4 @@
+pub mod CountLemmas
+pub mod RunLemmas
+pub mod RowLemmas
+pub mod LegalLemmas

@@ -1,0 +1,49 @@
+-- The rows of a segment and of its file.
+use Rattle.std.specs.Prelude.{◌≡◌, ℕ, List, [], ◌∷◌, length, map}
+use Rattle.std.specs.List.{All}
+use Rattle.std.proofs.Common.{ap, refl}
+use Rattle.std.proofs.lemmas.List.Elements.{All-map, All-weaker, All-nil, All-cons, All-head, All-tail}
+use Rattle.cable_tree.specs.Row.{IsRow}
+use Rattle.segment_shape.specs.Slaves.{SlaveValue}
+use Rattle.segment_shape.specs.Ranges.{IsSlave}
+use Rattle.segment_file.specs.Segment.{tree_row, tree_rows}
+use Rattle.segment_file.specs.Placed.{placed_row, placed_rows}
+use Rattle.segment_file.specs.Legal.{IsClock}
+
+pub all_before_map : {X Y : Type 0} (P : X → Type 0) (f : Y → X) (ys : List Y) → All P (map f ys) → All (λ y. P (f y)) ys
+all_before_map P f [] all = All-nil (λ y. P (f y))
+all_before_map P f (y ∷ ys) all = All-cons (λ y. P (f y)) y ys (All-head P (f y) (map f ys) all) (all_before_map P f ys (All-tail P (f y) (map f ys) all))
+
+slave_row : (cycle_ns : ℕ) (ids : List (List ℕ)) (s : SlaveValue) → IsSlave cycle_ns s → IsRow (tree_row (placed_row ids s))
+slave_row cycle_ns ids s is = record { tp_some = is.tp_ns.0; tp_most = is.tp_ns.1; tf_some = is.tf_ns.0; tf_most = is.tf_ns.1; cable_most = is.cable_ps }
+
+slave_clock : (cycle_ns : ℕ) (ids : List (List ℕ)) (s : SlaveValue) → IsSlave cycle_ns s → IsClock cycle_ns (placed_row ids s)
+slave_clock cycle_ns ids s is = record {
+  start = is.start;
+  phase_fs = is.phase_fs;
+  period_fs = is.period_fs;
+  measuring = is.measuring;
+  few = is.few;
+  rates = is.rates;
+  rising = is.rising;
+  shift_ns = is.shift_ns;
+  sync1_ns = is.sync1_ns;
+}
+
+pub rows_of_slaves : (cycle_ns : ℕ) (slaves : List SlaveValue) → All (IsSlave cycle_ns) slaves → All IsRow (tree_rows (placed_rows slaves))
+rows_of_slaves cycle_ns slaves all =
+    let ids = map (λ s. s.id) slaves in
+    All-map IsRow tree_row (placed_rows slaves)
+    (All-map (λ r. IsRow (tree_row r)) (placed_row ids) slaves
+    (All-weaker (IsSlave cycle_ns) (λ s. IsRow (tree_row (placed_row ids s))) (slave_row cycle_ns ids) slaves all))
+
+pub clocks_of_slaves : (cycle_ns : ℕ) (slaves : List SlaveValue) → All (IsSlave cycle_ns) slaves → All (IsClock cycle_ns) (placed_rows slaves)
+clocks_of_slaves cycle_ns slaves all =
+    let ids = map (λ s. s.id) slaves in
+    All-map (IsClock cycle_ns) (placed_row ids) slaves
+    (All-weaker (IsSlave cycle_ns) (λ s. IsClock cycle_ns (placed_row ids s)) (slave_clock cycle_ns ids) slaves all)
+
+-- placing a slave leaves its id
+pub ids_stay : (ids : List (List ℕ)) (slaves : List SlaveValue) → map (λ r. r.id) (map (placed_row ids) slaves) ≡ map (λ s. s.id) slaves
+ids_stay ids [] = refl
+ids_stay ids (s ∷ slaves) = ap (λ x. s.id ∷ x) (ids_stay ids slaves)

@@ -1,0 +1,11 @@
+pub mod Segment
+pub mod Placed
+pub mod Runs
+pub mod Faults
+pub mod Counted
+pub mod Legal
+pub mod Seen
+pub mod ErrorOf
+pub mod FaultOf
+pub mod Told
+pub mod InsideSegment

@@ -1,0 +1,27 @@
+-- Drift frames that are lost in a row.
+use Rattle.std.specs.Prelude.{◌≡◌, ℕ, ◌+◌, ◌<◌, Bool, false, Option, List, length, slice_index_or}
+use Rattle.std.specs.List.{find, list_all, range_with_len}
+use Rattle.segment_shape.specs.Losses.{is_listed}
+use Rattle.segment_shape.specs.declared.loss_row.Phase.TheVariants.{Drift}
+use Rattle.segment_shape.specs.declared.loss_row.LossRow.{LossRow}
+
+-- the drift frame of this number is lost
+abbrev pub is_lost : List LossRow → ℕ → Bool
+is_lost losses number = is_listed Drift number losses
+
+-- so many drift frames are lost from this number on
+abbrev pub is_run : List LossRow → ℕ → ℕ → Bool
+is_run losses count number = list_all (is_lost losses) (range_with_len number count)
+
+-- the greatest number of a lost frame
+unfoldable pub last_number : ℕ
+last_number = 100000
+
+-- the first number from which on so many are lost
+abbrev pub first_run : List LossRow → ℕ → Option ℕ
+first_run losses count = find (is_run losses count) (range_with_len 1 last_number)
+
+-- marks of the drift frames that are lost
+pub record AreMarks (losses : List LossRow) (marks : List Bool) : Type 0 where
+  pub enough : length marks ≡ 100017
+  pub told : (number : ℕ) → number < 100017 → slice_index_or marks number false ≡ is_lost losses number

@@ -1,0 +1,91 @@
+ghost use Rattle.std.specs.Prelude.{◌≡◌};
+ghost use Rattle.segment_file.specs.declared.seg_error.SegError.TheVariants.{NoMemory};
+ghost use Rattle.segment_file.specs.ErrorOf.{shape_error_of, tree_error_of};
+
+use cable_tree::TreeError;
+use segment_shape::{Id, KeyPath, ShapeError};
+use std::alloc::AllocError;
+
+/// Why the rows of a file are no tree of slaves. Rows are counted from 0, in the order of the file.
+#[derive(Clone, Copy, Debug, PartialEq, Eq)]
+pub enum ShapeTree {
+    /// There are no rows.
+    Empty,
+    /// The first row whose parent no row is.
+    NoParent(u16),
+    /// The second row without a parent.
+    TwoRoots(u16),
+    /// The first row whose parent and port are those of an earlier row.
+    PortTaken(u16),
+    /// The first row from which the parents never lead to a root.
+    Cycle(u16),
+}
+
+/// Why a file is no legal segment: the first check that fails, in this order.
+#[derive(Clone, Copy, Debug, PartialEq, Eq)]
+pub enum SegError {
+    /// The bytes are no JSON text.
+    BadText,
+    /// The value at this path is missing, of a wrong type or out of its range, or has a key that is not
+    /// known.
+    Shape(KeyPath),
+    /// The id of the first row whose id an earlier row has.
+    Twice(Id),
+    /// The rows are no tree.
+    Tree(ShapeTree),
+    /// The first measuring slave in the file that has a period outside 10 ns by more than ppm, or whose
+    /// first tick comes after its first period.
+    Rate(Id),
+    /// No slave is a clock.
+    NoReference,
+    /// The first slave in frame order that measures and cannot be measured.
+    Unmeasurable(Id),
+    /// A frame does not come back within a frame period.
+    TooSlow,
+    /// The clocks need not come together.
+    NoLock,
+    /// A start may lie too far ahead for a 32-bit clock.
+    Lead,
+    /// More drift frames than `loss_run` are lost in a row, the first time from this one on.
+    LossRun(u32),
+    /// A run may have more than 100,000 frames or 200,000 edges.
+    TooMuch,
+    /// Memory was refused.
+    NoMemory,
+}
+
+impl From<ShapeError> for SegError {
+    ghost from_gives = { λ error e. e ≡ shape_error_of error };
+
+    fn from(error: ShapeError) -> SegError {
+        match error {
+            ShapeError::BadText => SegError::BadText,
+            ShapeError::Shape(path) => SegError::Shape(path),
+            ShapeError::Twice(id) => SegError::Twice(id),
+            ShapeError::NoMemory => SegError::NoMemory,
+        }
+    }
+}
+
+impl From<TreeError> for SegError {
+    ghost from_gives = { λ error e. e ≡ tree_error_of error };
+
+    fn from(error: TreeError) -> SegError {
+        match error {
+            TreeError::Empty => SegError::Tree(ShapeTree::Empty),
+            TreeError::NoParent(row) => SegError::Tree(ShapeTree::NoParent(row)),
+            TreeError::TwoRoots(row) => SegError::Tree(ShapeTree::TwoRoots(row)),
+            TreeError::PortTaken(row) => SegError::Tree(ShapeTree::PortTaken(row)),
+            TreeError::Cycle(row) => SegError::Tree(ShapeTree::Cycle(row)),
+            TreeError::NoMemory => SegError::NoMemory,
+        }
+    }
+}
+
+impl From<AllocError> for SegError {
+    ghost from_gives = { λ _ e. e ≡ NoMemory };
+
+    fn from(_: AllocError) -> SegError {
+        SegError::NoMemory
+    }
+}
