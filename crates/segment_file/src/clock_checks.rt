@@ -1,8 +1,8 @@
-ghost use Rattle.std.specs.Prelude.{◌≡◌, ◌≤◌, IfErr, OnOk, length, map, option_map, None};
+ghost use Rattle.std.specs.Prelude.{◌≡◌, ◌<◌, ◌≤◌, IfErr, IfOk, OnOk, length, map, option_map, None, Some};
 ghost use Rattle.std.specs.List.{find, list_all};
-ghost use Rattle.segment_file.specs.Faults.{clock_fault, is_off, is_within};
+ghost use Rattle.segment_file.specs.Faults.{clock_fault, id_at, is_off, is_within};
 ghost use Rattle.segment_file.specs.FaultOf.{IsFaultOf};
-ghost use Rattle.segment_file.specs.Segment.{tree_rows};
+ghost use Rattle.segment_file.specs.Segment.{reference_row, tree_rows};
 ghost use Rattle.segment_file.specs.Seen.{row_seen};
 
 use crate::seg_error::SegError;
@@ -57,6 +57,13 @@ fn first_off(ppm: u32, rows: &[SlaveRow]) -> Option<Id>
     None
 }
 
+fn id_at(rows: &[SlaveRow], row: u16) -> Id
+    requires { row < length rows.now }
+    ensures { result.bytes ≡ id_at (map row_seen rows.now) row }
+{
+    rows[usize::from(row)].id
+}
+
 /// The row of the reference, where the clocks are without fault.
 #[tactic(auto, unfolding(crate::specs::Faults::clock_fault))]
 pub(crate) fn check_clocks(ppm: u32, rows: &[SlaveRow], tree: &Tree) -> Result<u16, SegError>
@@ -64,6 +71,7 @@ pub(crate) fn check_clocks(ppm: u32, rows: &[SlaveRow], tree: &Tree) -> Result<u
     requires few { length rows.now ≤ 256 }
     requires tree { tree.now ≡ tree_rows (map row_seen rows.now) }
     ensures ok { OnOk result (clock_fault ppm (map row_seen rows.now) ≡ None) }
+    ensures reference { IfOk result (λ r. reference_row (map row_seen rows.now) ≡ Some r) }
     ensures err { IfErr result (IsFaultOf (clock_fault ppm (map row_seen rows.now))) }
 {
     if let Some(id) = first_off(ppm, rows) {
@@ -73,7 +81,7 @@ pub(crate) fn check_clocks(ppm: u32, rows: &[SlaveRow], tree: &Tree) -> Result<u
         return Err(SegError::NoReference);
     };
     if let Some(row) = unmeasurable(tree, &measuring_flags(rows)) {
-        return Err(SegError::Unmeasurable(rows[usize::from(row)].id));
+        return Err(SegError::Unmeasurable(id_at(rows, row)));
     }
     Ok(reference)
 }

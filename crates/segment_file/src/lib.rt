@@ -11,6 +11,7 @@
 //! is in `specs/Placed.antt`, the checks in `specs/Faults.antt` and their order in `specs/Told.antt`.
 #![tactic(auto)]
 
+mod checks;
 mod clock_checks;
 mod counts;
 mod drift_runs;

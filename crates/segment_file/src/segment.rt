@@ -8,13 +8,13 @@ ghost use Rattle.segment_file.specs.Seen.{row_seen};
 ghost use Rattle.segment_file.specs.Segment.{clocks, counts_of, measuring, reference_row, tree_rows};
 ghost use Rattle.segment_file.specs.Told.{IsRefusal, IsSegmentText, IsTold};
 
-use crate::clock_checks::check_clocks;
-use crate::counts::{Counts, counts_of};
-use crate::frame_checks::{check_frames, frames_of_run, lock_in};
-use crate::placing::{placed_rows, tree_rows};
+use crate::checks::{check, tree_of};
+use crate::counts::Counts;
+use crate::frame_checks::{frames_of_run, lock_in};
+use crate::placing::placed_rows;
 use crate::seg_error::SegError;
 use crate::slave_row::SlaveRow;
-use crate::time_checks::{check_times, step_of};
+use crate::time_checks::step_of;
 use cable_tree::Tree;
 use segment_shape::{Head, LossRow, Shape, read_shape};
 use std::alloc::Global;
@@ -186,18 +186,15 @@ fn segment_of(alloc: Global, shape: Shape) -> Result<Segment, SegError>
     ensures err { IfErr result (IsRefusal (shape_seen shape)) }
 {
     let rows = placed_rows(alloc, shape.rows)?;
-    let tree = Tree::new(alloc, &tree_rows(alloc, &rows)?)?;
-    let reference = check_clocks(shape.head.ppm, &rows, &tree)?;
-    let counts = counts_of(&rows);
-    check_times(shape.head, counts, &tree)?;
-    check_frames(alloc, shape.head, counts, &shape.losses)?;
+    let tree = tree_of(alloc, &rows)?;
+    let checked = check(alloc, shape.head, &rows, &tree, &shape.losses)?;
     Ok(Segment {
         head: shape.head,
         rows,
         losses: shape.losses,
         tree,
-        reference,
-        counts,
+        reference: checked.reference,
+        counts: checked.counts,
     })
 }
 

@@ -1,6 +1,5 @@
-use Rattle.std.proofs.Common.{map, sym, ◌∙◌, subst, arith}
+use Rattle.std.proofs.Common.{map, arith}
 use Rattle.std.proofs.lemmas.List.{length-map}
-use Rattle.segment_file.specs.Counted.{IsCounted}
 use Rattle.segment_file.specs.Seen.{row_seen}
 use Rattle.segment_file.proofs.CountLemmas.{counted}
 use Rattle.segment_file.proofs.counts.counts_of.Goals as goal
