@@ -2,5 +2,9 @@ pub mod Climbing
 pub mod Finding
 pub mod Tables
 pub mod Recursions
+pub mod TrueHops
+pub mod HopErrors
+pub mod Readings
+pub mod AddedUp
 pub mod Listing
 pub mod Gathered

@@ -32,4 +32,4 @@ AreMeasurable rows measures = (r : ℕ) (a : Above) → r < length rows → meas
 
 -- the same rows with no cable between them
 abbrev pub without_cables : List Row → List Row
-without_cables rows = map (λ row. record row { cable_ps = 0 }) rows
+without_cables rows = map (λ (row : Row). record row { cable_ps = 0 }) rows

@@ -14,6 +14,7 @@
 mod error;
 mod kind;
 mod latch;
+pub mod laws;
 mod measurable;
 mod measured;
 mod slave;
