@@ -4,6 +4,8 @@ pub mod Tables
 pub mod Recursions
 pub mod TrueHops
 pub mod HopErrors
+pub mod NearDelays
+pub mod Order
 pub mod Readings
 pub mod AddedUp
 pub mod Listing

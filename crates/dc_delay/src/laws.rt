@@ -5,16 +5,19 @@
 
 ghost use Rattle.std.specs.Prelude.{◌≡◌, ℕ, ◌+◌, ◌-◌, ◌*◌, ◌/◌, ◌<◌, ◌≤◌, ◌^◌, Bool, true, Some, None, List, length, map};
 ghost use Rattle.std.specs.List.{All};
+ghost use Rattle.cable_tree.specs.FrameOrder.{order};
 ghost use Rattle.cable_tree.specs.PathSums.{arrive, round_trip, span};
 ghost use Rattle.cable_tree.specs.Row.{Row, IsRow};
 ghost use Rattle.cable_tree.specs.Segment.{IsTree};
 ghost use Rattle.cable_tree.specs.declared.port.Port.{Port};
 ghost use Rattle.osc_clock.specs.Ticks.{Oscillator, IsRunning};
+ghost use Rattle.dc_bounds.specs.DelayBound.{delay_bound};
+ghost use Rattle.dc_bounds.specs.Measurable.{unmeasurable};
 ghost use Rattle.dc_bounds.specs.TickBounds.{tick_gap};
 ghost use Rattle.dc_bounds.specs.TickFacts.{IsNear, IsWithin};
-ghost use Rattle.dc_bounds.specs.Weight.{hops_within, is_over, weight_below};
-ghost use Rattle.dc_delay.specs.LatchLaw.{AreAllLatched, AreLatched, AreMeasurable, AreReadings};
-ghost use Rattle.dc_delay.specs.MeasuredDelay.{ahead, back, turn};
+ghost use Rattle.dc_bounds.specs.Weight.{hops_within, is_over, reference, weight, weight_below};
+ghost use Rattle.dc_delay.specs.LatchLaw.{AreAllLatched, AreLatched, AreMeasurable, AreReadings, without_cables};
+ghost use Rattle.dc_delay.specs.MeasuredDelay.{ahead, back, delay, delay_list, turn};
 
 /// The readings of a clock that does not correct, at the instants at which a frame passes its slave, meet
 /// the latch law with G of the round trip: whatever the clock showed, and at whatever time the frame came.
@@ -39,4 +42,28 @@ pub fn hops_add_up()
         → IsNear (1000000 * (ahead rows measures laps r + back rows measures laps c) + 2 * arrive rows c)
             (1000000 * (back rows measures laps r + ahead rows measures laps c) + 2 * arrive rows r)
             (weight_below rows measures c r * g) }
+{}
+
+/// The measured delay of a clock is near the true one, which is no negative number: within half of its
+/// weight times g and of 1 ns, rounded down. With G of the round trip that is the delay bound, and so the
+/// delay of the reference is exact.
+pub fn measured_delays_are_near()
+    ensures later { (rows : List Row) → IsTree rows → All IsRow rows → (measures : ℕ → Bool) → unmeasurable rows measures (order rows) ≡ None
+        → (timed : ℕ → Bool) → ((r : ℕ) → r < length rows → timed r ≡ true → measures r ≡ true)
+        → (first : ℕ) → reference rows timed ≡ Some first
+        → (r : ℕ) → r < length rows → timed r ≡ true → arrive rows first ≤ arrive rows r }
+    ensures near { (rows : List Row) → IsTree rows → All IsRow rows → (measures : ℕ → Bool) → unmeasurable rows measures (order rows) ≡ None
+        → (timed : ℕ → Bool) → ((r : ℕ) → r < length rows → timed r ≡ true → measures r ≡ true)
+        → (first : ℕ) → reference rows timed ≡ Some first
+        → (laps : ℕ → Port → ℕ) (g : ℕ) → AreAllLatched rows measures g laps
+        → (r : ℕ) → r < length rows → timed r ≡ true
+        → IsNear (1000000 * delay rows measures timed laps (order rows) r) (arrive rows r - arrive rows first)
+            ((weight rows measures timed r * g + 1000000) / 2) }
+    ensures bound { (rows : List Row) → IsTree rows → All IsRow rows → (measures : ℕ → Bool) → unmeasurable rows measures (order rows) ≡ None
+        → (timed : ℕ → Bool) → ((r : ℕ) → r < length rows → timed r ≡ true → measures r ≡ true)
+        → (first : ℕ) → reference rows timed ≡ Some first
+        → (laps : ℕ → Port → ℕ) (ppm : ℕ) → AreAllLatched rows measures (tick_gap ppm (round_trip rows)) laps
+        → (r : ℕ) → r < length rows → timed r ≡ true
+        → IsNear (1000000 * delay rows measures timed laps (order rows) r) (arrive rows r - arrive rows first)
+            (delay_bound ppm (weight rows measures timed r) (round_trip rows)) }
 {}
