@@ -4,6 +4,7 @@ pub mod Tables
 pub mod Recursions
 pub mod TrueHops
 pub mod HopErrors
+pub mod Alike
 pub mod NearDelays
 pub mod Order
 pub mod Readings

@@ -1,5 +1,5 @@
 -- What the latched times of a tree must meet for the delays to be near, and when they do.
-use Rattle.std.specs.Prelude.{◌≡◌, ℕ, ◌+◌, ◌-◌, ◌*◌, ◌%◌, ◌^◌, ◌<◌, Bool, true, Some, List, length, map}
+use Rattle.std.specs.Prelude.{◌≡◌, ℕ, ◌+◌, ◌-◌, ◌*◌, ◌%◌, ◌^◌, ◌<◌, Bool, true, Some, List, length}
 use Rattle.cable_tree.specs.declared.port.Above.{Above}
 use Rattle.cable_tree.specs.declared.port.Port.{Port}
 use Rattle.cable_tree.specs.Row.{Row}
@@ -29,7 +29,3 @@ AreReadings rows o x t r laps = (p : Port) (k : ℕ) → child rows r p ≡ Some
 -- each measuring slave that has a measuring parent can be measured from it
 abbrev pub AreMeasurable : List Row → (ℕ → Bool) → Type 0
 AreMeasurable rows measures = (r : ℕ) (a : Above) → r < length rows → measures r ≡ true → measuring_parent rows measures r ≡ Some a → is_measurable rows measures r ≡ true
-
--- the same rows with no cable between them
-abbrev pub without_cables : List Row → List Row
-without_cables rows = map (λ (row : Row). record row { cable_ps = 0 }) rows

@@ -16,8 +16,9 @@ ghost use Rattle.dc_bounds.specs.Measurable.{unmeasurable};
 ghost use Rattle.dc_bounds.specs.TickBounds.{tick_gap};
 ghost use Rattle.dc_bounds.specs.TickFacts.{IsNear, IsWithin};
 ghost use Rattle.dc_bounds.specs.Weight.{hops_within, is_over, reference, weight, weight_below};
-ghost use Rattle.dc_delay.specs.LatchLaw.{AreAllLatched, AreLatched, AreMeasurable, AreReadings, without_cables};
+ghost use Rattle.dc_delay.specs.LatchLaw.{AreAllLatched, AreLatched, AreMeasurable, AreReadings};
 ghost use Rattle.dc_delay.specs.MeasuredDelay.{ahead, back, delay, delay_list, turn};
+ghost use Rattle.dc_delay.specs.ShapeRows.{kinds_of, places_of, rows_of};
 
 /// The readings of a clock that does not correct, at the instants at which a frame passes its slave, meet
 /// the latch law with G of the round trip: whatever the clock showed, and at whatever time the frame came.
@@ -66,4 +67,16 @@ pub fn measured_delays_are_near()
         → (r : ℕ) → r < length rows → timed r ≡ true
         → IsNear (1000000 * delay rows measures timed laps (order rows) r) (arrive rows r - arrive rows first)
             (delay_bound ppm (weight rows measures timed r) (round_trip rows)) }
+{}
+
+/// A shape and the kinds of its slaves tell all that the delays need of a tree: they have its frame order,
+/// its unmeasurable slave and its delays.
+pub fn cables_do_not_matter()
+    ensures order { (rows : List Row) → order (rows_of (places_of rows) (kinds_of rows)) ≡ order rows }
+    ensures unmeasurable { (rows : List Row) (measures : ℕ → Bool) (order : List ℕ)
+        → unmeasurable (rows_of (places_of rows) (kinds_of rows)) measures order ≡ unmeasurable rows measures order }
+    ensures delays { (rows : List Row) (measures timed : ℕ → Bool) (laps : ℕ → Port → ℕ) (order : List ℕ)
+        → delay_list (rows_of (places_of rows) (kinds_of rows)) measures timed laps order ≡ delay_list rows measures timed laps order }
+    ensures delay { (rows : List Row) (measures timed : ℕ → Bool) (laps : ℕ → Port → ℕ) (order : List ℕ) (r : ℕ)
+        → delay (rows_of (places_of rows) (kinds_of rows)) measures timed laps order r ≡ delay rows measures timed laps order r }
 {}
