@@ -115,10 +115,10 @@ module _ (places : List Place) (kinds : List Kind) (latches : List (Option Latch
   gathered_table few = record {
     few = omega (arith, whole);
     each = λ r p within.
-    ap (λ (s : Slave). connected_at s.connected p) (slave_told r (omega (arith, within, whole)))
-    ∙ ports_told r p
-    ∙ sym (connected r p places kinds same_kinds)
-    ∙ ap (λ rows. is_connected rows r p) (sym rows_same);
+        ap (λ (s : Slave). connected_at s.connected p) (slave_told r (omega (arith, within, whole)))
+        ∙ ports_told r p
+        ∙ sym (connected r p places kinds same_kinds)
+        ∙ ap (λ rows. is_connected rows r p) (sym rows_same);
   }
 
 -- what a loop has gathered, at its end

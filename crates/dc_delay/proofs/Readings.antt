@@ -86,10 +86,10 @@ pub readings_are_latched : (rows : List Row) (o : Oscillator) (ppm x t r : ℕ) 
 readings_are_latched rows o ppm x t r laps tree slaves within running small steady short readings =
     let limit = round_trip rows in
     let near : (a b : ℕ) → a ≤ b → b ≤ limit → IsNear (10000000 * since o ppm running small steady t limit b + a) (10000000 * since o ppm running small steady t limit a + b) (tick_gap ppm limit)
-        = since_near o ppm running small steady t limit in
+    = since_near o ppm running small steady t limit in
     let rise : (p : Port) (k : ℕ) → child rows r p ≡ Some k → laps r p ≡ 10 * since o ppm running small steady t limit (lap rows r p)
-        = λ p k e. readings p k e ∙ latched_rise x (10 * since o ppm running small steady t limit (lap rows r p))
-        (since_few o ppm running small steady t limit (lap rows r p) (lap_inside rows tree slaves r p k within e) (omega arith)) in
+    = λ p k e. readings p k e ∙ latched_rise x (10 * since o ppm running small steady t limit (lap rows r p))
+    (since_few o ppm running small steady t limit (lap rows r p) (lap_inside rows tree slaves r p k within e) (omega arith)) in
     record {
       each = λ p j e.
           let n = near 0 (lap rows r p) (omega arith) (lap_inside rows tree slaves r p j within e) in

@@ -35,14 +35,14 @@ pub fn hops_add_up()
         → AreAllLatched rows measures g laps → AreMeasurable rows measures
         → (c r : ℕ) → r < length rows → measures r ≡ true → is_over rows measures c (length rows) r ≡ true
         → IsNear (1000000 * (ahead rows measures laps r + turn rows laps r + back rows measures laps c) + 2 * arrive rows c)
-            (1000000 * (back rows measures laps r + ahead rows measures laps c) + 2 * arrive rows r + span rows r)
-            ((1 + hops_within rows measures c (length rows) r) * g) }
+        (1000000 * (back rows measures laps r + ahead rows measures laps c) + 2 * arrive rows r + span rows r)
+        ((1 + hops_within rows measures c (length rows) r) * g) }
     ensures weighed { (rows : List Row) → IsTree rows → (measures : ℕ → Bool) (laps : ℕ → Port → ℕ) (g : ℕ)
         → AreAllLatched rows measures g laps → AreMeasurable rows measures
         → (c r : ℕ) → r < length rows → measures r ≡ true → is_over rows measures c (length rows) r ≡ true
         → IsNear (1000000 * (ahead rows measures laps r + back rows measures laps c) + 2 * arrive rows c)
-            (1000000 * (back rows measures laps r + ahead rows measures laps c) + 2 * arrive rows r)
-            (weight_below rows measures c r * g) }
+        (1000000 * (back rows measures laps r + ahead rows measures laps c) + 2 * arrive rows r)
+        (weight_below rows measures c r * g) }
 {}
 
 /// The measured delay of a clock is near the true one, which is no negative number: within half of its
@@ -59,14 +59,14 @@ pub fn measured_delays_are_near()
         → (laps : ℕ → Port → ℕ) (g : ℕ) → AreAllLatched rows measures g laps
         → (r : ℕ) → r < length rows → timed r ≡ true
         → IsNear (1000000 * delay rows measures timed laps (order rows) r) (arrive rows r - arrive rows first)
-            ((weight rows measures timed r * g + 1000000) / 2) }
+        ((weight rows measures timed r * g + 1000000) / 2) }
     ensures bound { (rows : List Row) → IsTree rows → All IsRow rows → (measures : ℕ → Bool) → unmeasurable rows measures (order rows) ≡ None
         → (timed : ℕ → Bool) → ((r : ℕ) → r < length rows → timed r ≡ true → measures r ≡ true)
         → (first : ℕ) → reference rows timed ≡ Some first
         → (laps : ℕ → Port → ℕ) (ppm : ℕ) → AreAllLatched rows measures (tick_gap ppm (round_trip rows)) laps
         → (r : ℕ) → r < length rows → timed r ≡ true
         → IsNear (1000000 * delay rows measures timed laps (order rows) r) (arrive rows r - arrive rows first)
-            (delay_bound ppm (weight rows measures timed r) (round_trip rows)) }
+        (delay_bound ppm (weight rows measures timed r) (round_trip rows)) }
 {}
 
 /// A shape and the kinds of its slaves tell all that the delays need of a tree: they have its frame order,

@@ -25,7 +25,13 @@ pub type DelayList = ArrayVec<Option<u64>, 256>;
 /// frame order, the frame came to each of them, by the latched times. A slave measures where it has a
 /// latch, and is a clock where it is timed. What is computed is a delay where every clock measures.
 /// After a refusal `out` is empty.
-pub fn delays(shape: &Shape, kinds: &[Kind], latches: &[Option<Latch>], timed: &[bool], out: &mut DelayList) -> Result<(), DelayError>
+pub fn delays(
+    shape: &Shape,
+    kinds: &[Kind],
+    latches: &[Option<Latch>],
+    timed: &[bool],
+    out: &mut DelayList,
+) -> Result<(), DelayError>
     requires kinds { length kinds.now ≡ length shape.now }
     requires latches { length latches.now ≡ length shape.now }
     requires timed { length timed.now ≡ length shape.now }

@@ -74,9 +74,18 @@ fn two_slaves(rt: HostRuntime) {
 fn a_star(rt: HostRuntime) {
     let leaf = latch([0; 4]);
     let root = latch([1_000_020, 1_001_450, 1_002_160, 1_000_740]);
-    let (answer, list) = measured(&rt, &[STAR, LEAF, LEAF, LEAF], &[KIND; 4], &[root, leaf, leaf, leaf], &[true; 4]);
+    let (answer, list) = measured(
+        &rt,
+        &[STAR, LEAF, LEAF, LEAF],
+        &[KIND; 4],
+        &[root, leaf, leaf, leaf],
+        &[true; 4],
+    );
     assert_eq!(rt; answer, Ok(()));
-    assert_eq!(rt; list.as_slice(), [Some(0), Some(360), Some(1070), Some(1780)].as_slice());
+    assert_eq!(rt;
+        list.as_slice(),
+        [Some(0), Some(360), Some(1070), Some(1780)].as_slice()
+    );
 }
 
 #[test]
@@ -94,16 +103,31 @@ fn clockless_slaves_between(rt: HostRuntime) {
         KIND,
     ];
     let latches = [latch([20, 2910, 0, 0]), None, None, latch([0; 4])];
-    let (answer, list) = measured(&rt, &[LINE, LINE, LINE, LEAF], &kinds, &latches, &[true, false, false, true]);
+    let (answer, list) = measured(
+        &rt,
+        &[LINE, LINE, LINE, LEAF],
+        &kinds,
+        &latches,
+        &[true, false, false, true],
+    );
     assert_eq!(rt; answer, Ok(()));
-    assert_eq!(rt; list.as_slice(), [Some(0), None, None, Some(1480)].as_slice());
+    assert_eq!(rt;
+        list.as_slice(),
+        [Some(0), None, None, Some(1480)].as_slice()
+    );
 }
 
 #[test]
 fn a_root_that_only_measures(rt: HostRuntime) {
     let leaf = latch([0; 4]);
     let root = latch([6_000_020, 6_001_450, 0, 6_000_740]);
-    let (answer, list) = measured(&rt, &[HIGH_FORK, LEAF, LEAF], &[KIND; 3], &[root, leaf, leaf], &[false, true, true]);
+    let (answer, list) = measured(
+        &rt,
+        &[HIGH_FORK, LEAF, LEAF],
+        &[KIND; 3],
+        &[root, leaf, leaf],
+        &[false, true, true],
+    );
     assert_eq!(rt; answer, Ok(()));
     assert_eq!(rt; list.as_slice(), [None, Some(0), Some(710)].as_slice());
 }
@@ -113,7 +137,13 @@ fn refusals(rt: HostRuntime) {
     let leaf = latch([0; 4]);
     let statuses = [LINE, FORK, LEAF, LEAF];
     let latches = [latch([0, 900, 0, 0]), None, leaf, leaf];
-    let (answer, list) = measured(&rt, &statuses, &[KIND; 4], &latches, &[true, false, true, true]);
+    let (answer, list) = measured(
+        &rt,
+        &statuses,
+        &[KIND; 4],
+        &latches,
+        &[true, false, true, true],
+    );
     assert_eq!(rt; answer, Err(DelayError::Unmeasurable(2)));
     assert!(rt; list.is_empty());
 
