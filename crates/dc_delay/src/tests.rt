@@ -1,7 +1,7 @@
 //! Delays of small segments, worked out by hand. The slaves keep a frame for 310 ns and 300 ns, and
 //! cables take 50 ns, where nothing else is said.
 
-use super::{DelayError, DelayList, Kind, Latch, delays};
+use super::{DelayError, DelayList, Kind, Latch, delays, laws};
 use dc_topology::{Shape, topology};
 use std::process::Abort;
 use wrap_time::{ClockWord, T32};
@@ -30,6 +30,11 @@ fn latch(ports: [u64; 4]) -> Option<Latch> {
     })
 }
 
+/// The times of a leaf, of which none but that of port 0 counts.
+fn leaf() -> Option<Latch> {
+    latch([0; 4])
+}
+
 /// The answer for a segment with these statuses, and the list, in which a delay stood before.
 fn measured(
     rt: &impl Abort,
@@ -51,7 +56,7 @@ fn measured(
 
 /// The delay of the second of two slaves in a line, where the first one measured these times.
 fn behind(rt: &impl Abort, arrival: u64, back: u64) -> Option<u64> {
-    let latches = [latch([arrival, back, 0, 0]), latch([0; 4])];
+    let latches = [latch([arrival, back, 0, 0]), leaf()];
     let (answer, list) = measured(rt, &[LINE, LEAF], &[KIND; 2], &latches, &[true; 2]);
     assert_eq!(rt; answer, Ok(()));
     assert!(rt; list.len() == 2);
@@ -72,13 +77,12 @@ fn two_slaves(rt: HostRuntime) {
 
 #[test]
 fn a_star(rt: HostRuntime) {
-    let leaf = latch([0; 4]);
     let root = latch([1_000_020, 1_001_450, 1_002_160, 1_000_740]);
     let (answer, list) = measured(
         &rt,
         &[STAR, LEAF, LEAF, LEAF],
         &[KIND; 4],
-        &[root, leaf, leaf, leaf],
+        &[root, leaf(), leaf(), leaf()],
         &[true; 4],
     );
     assert_eq!(rt; answer, Ok(()));
@@ -102,7 +106,7 @@ fn clockless_slaves_between(rt: HostRuntime) {
         },
         KIND,
     ];
-    let latches = [latch([20, 2910, 0, 0]), None, None, latch([0; 4])];
+    let latches = [latch([20, 2910, 0, 0]), None, None, leaf()];
     let (answer, list) = measured(
         &rt,
         &[LINE, LINE, LINE, LEAF],
@@ -119,13 +123,12 @@ fn clockless_slaves_between(rt: HostRuntime) {
 
 #[test]
 fn a_root_that_only_measures(rt: HostRuntime) {
-    let leaf = latch([0; 4]);
     let root = latch([6_000_020, 6_001_450, 0, 6_000_740]);
     let (answer, list) = measured(
         &rt,
         &[HIGH_FORK, LEAF, LEAF],
         &[KIND; 3],
-        &[root, leaf, leaf],
+        &[root, leaf(), leaf()],
         &[false, true, true],
     );
     assert_eq!(rt; answer, Ok(()));
@@ -134,9 +137,8 @@ fn a_root_that_only_measures(rt: HostRuntime) {
 
 #[test]
 fn refusals(rt: HostRuntime) {
-    let leaf = latch([0; 4]);
     let statuses = [LINE, FORK, LEAF, LEAF];
-    let latches = [latch([0, 900, 0, 0]), None, leaf, leaf];
+    let latches = [latch([0, 900, 0, 0]), None, leaf(), leaf()];
     let (answer, list) = measured(
         &rt,
         &statuses,
@@ -151,4 +153,12 @@ fn refusals(rt: HostRuntime) {
     let (answer, list) = measured(&rt, &statuses, &[KIND; 4], &latches, &[false; 4]);
     assert_eq!(rt; answer, Err(DelayError::NoReference));
     assert!(rt; list.is_empty());
+}
+
+#[test]
+fn laws_are_called(_rt: HostRuntime) {
+    laws::readings_are_latched();
+    laws::hops_add_up();
+    laws::measured_delays_are_near();
+    laws::cables_do_not_matter();
 }
