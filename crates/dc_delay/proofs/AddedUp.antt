@@ -1,6 +1,6 @@
 -- The doubled hops from one measuring slave down to another, one hop at a time.
-use Rattle.std.specs.Prelude.{◌≡◌, ℕ, ◌+◌, ◌*◌, ◌<◌, ◌≤◌, Bool, true, false, ◌||◌, nat_eq, if◌then◌else◌, Option, Some, None, List, length}
-use Rattle.std.proofs.Common.{arith, rules, refl, sym, ap, ◌∙◌, subst}
+use Rattle.std.specs.Prelude.{◌≡◌, ℕ, ◌+◌, ◌*◌, ◌<◌, ◌≤◌, Bool, true, false, nat_eq, if◌then◌else◌, Option, Some, None, List, length}
+use Rattle.std.proofs.Common.{arith, rules, refl, sym, ap, ◌∙◌}
 use Rattle.std.proofs.lemmas.Bool.{false≢true, eqb-true}
 use Rattle.std.proofs.lemmas.Bool.Decides.{nat_tests}
 use Rattle.cable_tree.specs.declared.port.Above.{Above}
@@ -10,7 +10,7 @@ use Rattle.cable_tree.specs.Segment.{IsTree}
 use Rattle.cable_tree.specs.PathSums.{arrive, span}
 use Rattle.cable_tree.specs.Hops.{previous, last_port, lap, lap_before, forwarding}
 use Rattle.dc_bounds.specs.TickFacts.{IsNear}
-use Rattle.dc_bounds.specs.Weight.{measuring_parent, hop_weight, hops_by, hops_within, is_leaf, is_over, reaches, weight_below}
+use Rattle.dc_bounds.specs.Weight.{measuring_parent, hop_weight, hops_within, is_leaf, is_over, weight_below}
 use Rattle.dc_delay.specs.ShapeRows.{tp_ns, tf_ns}
 use Rattle.dc_delay.specs.MeasuredDelay.{ahead, ahead_by, back, back_by, latched_before, forwarding_ns, passed, turn}
 use Rattle.dc_delay.specs.LatchLaw.{AreAllLatched, AreMeasurable}

@@ -1,21 +1,21 @@
 -- Rows that differ in their cables alone.
-use Rattle.std.specs.Prelude.{◌≡◌, ℕ, suc, zero, ◌+◌, ◌-◌, ◌/◌, Bool, true, false, not, nat_le, nat_lt, if◌then◌else◌, Option, Some, None, List, [], ◌∷◌, ◌++◌, drop, filter, length, map}
+use Rattle.std.specs.Prelude.{◌≡◌, ℕ, suc, zero, ◌+◌, ◌/◌, Bool, not, nat_le, nat_lt, if◌then◌else◌, Option, Some, None, List, [], ◌∷◌, ◌++◌, drop, filter, length, map}
 use Rattle.std.specs.List.{find, position, position_or_len}
 use Rattle.std.specs.Option.{is_some}
-use Rattle.std.proofs.Common.{arith, refl, sym, ap, ◌∙◌, cond}
+use Rattle.std.proofs.Common.{arith, refl, ap, ◌∙◌, cond}
 use Rattle.std.proofs.Math.Path.{fun_ext}
 use Rattle.std.proofs.Math.ListN.{get_or-map}
 use Rattle.std.proofs.lemmas.List.{length-map}
 use Rattle.cable_tree.specs.declared.port.Above.{Above}
 use Rattle.cable_tree.specs.declared.port.Port.{Port}
 use Rattle.cable_tree.specs.declared.port.Port.TheVariants.{P1, P2, P3}
-use Rattle.cable_tree.specs.Row.{Row, row_at, no_row, above}
+use Rattle.cable_tree.specs.Row.{Row, no_row, above}
 use Rattle.cable_tree.specs.FrameOrder.{is_at, is_nowhere, child, behind, order_from, order, root}
 use Rattle.cable_tree.specs.Hops.{or_before, previous, last_port}
 use Rattle.dc_bounds.specs.Weight.{measuring_from, measuring_within, measuring_parent}
 use Rattle.dc_bounds.specs.Measurable.{branches, leads_from, is_measured_within, is_measurable, unmeasurable}
 use Rattle.dc_delay.specs.ShapeRows.{row_of, rows_of, places_of, kind_of, kinds_of, tp_ns, tf_ns}
-use Rattle.dc_delay.specs.MeasuredDelay.{latched_before, forwarding_ns, turn_by, turn, passed_from, passed_within, passed, hop_ahead, hop_back, ahead_by, ahead_within, ahead, back_by, back_within, back, delay_from, delay, delays_from, delay_list}
+use Rattle.dc_delay.specs.MeasuredDelay.{latched_before, forwarding_ns, turn_by, passed_from, passed_within, passed, hop_ahead, hop_back, ahead_by, ahead_within, ahead, back_by, back_within, back, delay_from, delay, delays_from, delay_list}
 
 -- a row without its cable
 abbrev bare : Row → Row

@@ -1,8 +1,7 @@
 -- How far the latched times of one slave are from the true ones: over a hop, and over its whole span.
-use Rattle.std.specs.Prelude.{◌≡◌, ℕ, ◌+◌, ◌*◌, ◌<◌, ◌≤◌, Bool, true, false, ◌||◌, not, if◌then◌else◌, Option, Some, None, List, length}
+use Rattle.std.specs.Prelude.{◌≡◌, ℕ, ◌+◌, ◌*◌, ◌<◌, Bool, false, ◌||◌, not, if◌then◌else◌, Option, Some, None, List, length}
 use Rattle.std.specs.Option.{is_some}
-use Rattle.std.proofs.Common.{arith, refl, sym, ap, ◌∙◌, subst}
-use Rattle.cable_tree.specs.declared.port.Above.{Above}
+use Rattle.std.proofs.Common.{arith, refl, sym, ap, ◌∙◌}
 use Rattle.cable_tree.specs.declared.port.Port.{Port}
 use Rattle.cable_tree.specs.declared.port.Port.TheVariants.{P1, P2, P3}
 use Rattle.cable_tree.specs.Row.{Row, tp, tf}
@@ -13,7 +12,7 @@ use Rattle.cable_tree.specs.Hops.{or_before, previous, last_port, lap, lap_befor
 use Rattle.cable_tree.proofs.Laps.{span_of_laps}
 use Rattle.cable_tree.proofs.Levels.{span_is, none_some}
 use Rattle.dc_bounds.specs.TickFacts.{IsNear}
-use Rattle.dc_bounds.specs.Weight.{is_connected, hop_weight, is_leaf}
+use Rattle.dc_bounds.specs.Weight.{hop_weight, is_leaf}
 use Rattle.dc_delay.specs.ShapeRows.{tf_ns}
 use Rattle.dc_delay.specs.MeasuredDelay.{latched_before, turn, turn_by}
 use Rattle.dc_delay.specs.LatchLaw.{AreLatched}

@@ -1,8 +1,8 @@
 -- The measured delay of a clock, against the true one: over the ways down from the slave where those to the clock and to the
 -- reference part.
 use Rattle.std.specs.Prelude.{◌≡◌, ℕ, ◌+◌, ◌-◌, ◌*◌, ◌/◌, ◌<◌, ◌≤◌, Bool, true, false, ◌||◌, nat_eq, if◌then◌else◌, Option, Some, None, List, length, slice_index}
-use Rattle.std.specs.List.{All, find}
-use Rattle.std.proofs.Common.{arith, rules, refl, sym, ap, ◌∙◌, subst, ◌⊎◌, inl, inr}
+use Rattle.std.specs.List.{All}
+use Rattle.std.proofs.Common.{arith, rules, refl, sym, ap, ◌∙◌, ◌⊎◌, inl, inr}
 use Rattle.std.proofs.lemmas.Bool.{cases_lt, false≢true, eqb-true}
 use Rattle.std.proofs.lemmas.Bool.Decides.{nat_tests}
 use Rattle.cable_tree.specs.declared.port.Above.{Above}
@@ -16,7 +16,7 @@ use Rattle.cable_tree.proofs.Members.{place_of}
 use Rattle.dc_bounds.specs.DelayBound.{delay_bound}
 use Rattle.dc_bounds.specs.TickBounds.{tick_gap}
 use Rattle.dc_bounds.specs.TickFacts.{IsNear}
-use Rattle.dc_bounds.specs.Weight.{measuring_parent, hops_within, is_leaf, is_over, reaches, higher_or, meeting, meeting_within, reference, weight, weight_below, weight_to}
+use Rattle.dc_bounds.specs.Weight.{measuring_parent, hops_within, is_leaf, is_over, reaches, higher_or, meeting, reference, weight, weight_below, weight_to}
 use Rattle.dc_bounds.specs.Measurable.{unmeasurable}
 use Rattle.dc_delay.specs.MeasuredDelay.{ahead, back, delay, delay_from}
 use Rattle.dc_delay.specs.LatchLaw.{AreAllLatched}

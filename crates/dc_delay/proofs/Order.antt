@@ -1,22 +1,21 @@
 -- The frame order, in which a measuring slave comes after the measuring slaves above it.
-use Rattle.std.specs.Prelude.{◌≡◌, ℕ, suc, zero, ◌+◌, ◌<◌, ◌≤◌, Bool, true, false, not, ◌&&◌, ◌||◌, nat_eq, if◌then◌else◌, Option, Some, None, List, [], ◌∷◌, length, drop, filter, slice_index}
+use Rattle.std.specs.Prelude.{◌≡◌, ℕ, suc, zero, ◌<◌, ◌≤◌, Bool, true, false, not, ◌&&◌, ◌||◌, if◌then◌else◌, Option, Some, None, List, [], ◌∷◌, length, drop, filter, slice_index}
 use Rattle.std.specs.List.{All, find}
-use Rattle.std.proofs.Common.{arith, rules, refl, sym, ap, ◌∙◌, subst, inl, inr}
-use Rattle.std.proofs.lemmas.Bool.{cases_lt, false≢true, eqb-true}
-use Rattle.std.proofs.lemmas.Bool.Decides.{nat_tests}
+use Rattle.std.proofs.Common.{arith, refl, sym, ap, ◌∙◌, subst, inl, inr}
+use Rattle.std.proofs.lemmas.Bool.{cases_lt, false≢true}
 use Rattle.cable_tree.specs.declared.port.Above.{Above}
-use Rattle.cable_tree.specs.Row.{Row, IsRow, above, tp}
+use Rattle.cable_tree.specs.Row.{Row, IsRow, above}
 use Rattle.cable_tree.specs.Segment.{IsTree}
 use Rattle.cable_tree.specs.FrameOrder.{order}
 use Rattle.cable_tree.specs.PathSums.{arrive}
 use Rattle.cable_tree.proofs.Children.{child_is}
 use Rattle.cable_tree.proofs.Levels.{arrive_at_child}
-use Rattle.cable_tree.proofs.Rising.{order_pair, order_within, tp_some}
+use Rattle.cable_tree.proofs.Rising.{order_pair, tp_some}
 use Rattle.cable_tree.proofs.Members.{place_of}
-use Rattle.dc_bounds.specs.Weight.{measuring_from, measuring_parent, is_over, reaches, higher_or, meeting, meeting_within}
+use Rattle.dc_bounds.specs.Weight.{measuring_from, measuring_parent}
 use Rattle.dc_bounds.specs.Measurable.{branches, leads_from, is_measurable, unmeasurable}
 use Rattle.dc_delay.specs.LatchLaw.{AreMeasurable}
-use Rattle.dc_delay.proofs.Recursions.{climb_above, climb_measuring, measuring_is, measured_is, parent_measures, parent_within, over_is, meeting_is}
+use Rattle.dc_delay.proofs.Recursions.{climb_above, measuring_is, measured_is, parent_measures, parent_within}
 
 -- the first element that passes, with those before it
 abbrev pub IsFirst : (ℕ → Bool) → List ℕ → ℕ → Type 0

@@ -7,17 +7,17 @@ use Rattle.std.proofs.lemmas.Nat.{pow_pos}
 use Rattle.std.proofs.Math.Nat.{mod-add-mod, mod-eq_of_lt, add-mul-mod_self_left}
 use Rattle.cable_tree.specs.declared.port.Port.{Port}
 use Rattle.cable_tree.specs.declared.port.Port.TheVariants.{P1, P2, P3}
-use Rattle.cable_tree.specs.Row.{Row, IsRow, tp, tf}
+use Rattle.cable_tree.specs.Row.{Row, IsRow}
 use Rattle.cable_tree.specs.Segment.{IsTree}
 use Rattle.cable_tree.specs.FrameOrder.{child}
-use Rattle.cable_tree.specs.PathSums.{detour, detour_to, earlier, round_trip, span}
+use Rattle.cable_tree.specs.PathSums.{detour_to, earlier, round_trip, span}
 use Rattle.cable_tree.specs.Hops.{lap, lap_to}
 use Rattle.cable_tree.proofs.Levels.{span_is}
 use Rattle.cable_tree.proofs.Members.{inside}
 use Rattle.osc_clock.specs.Ticks.{Oscillator, IsRunning, ticks}
 use Rattle.osc_clock.proofs.TickLaws.{ticks_rise}
-use Rattle.dc_bounds.specs.TickBounds.{tick_fs, tick_gap}
-use Rattle.dc_bounds.specs.TickFacts.{IsNear, IsWithin, AreTicksOf}
+use Rattle.dc_bounds.specs.TickBounds.{tick_gap}
+use Rattle.dc_bounds.specs.TickFacts.{IsNear, IsWithin}
 use Rattle.dc_bounds.proofs.Growth.{tick_gap_rises, tick_gap_near}
 use Rattle.dc_bounds.proofs.IntervalFacts.{ticks_in_interval}
 use Rattle.dc_delay.specs.Latched.{latched}
