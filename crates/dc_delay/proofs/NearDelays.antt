@@ -142,12 +142,26 @@ module _ (rows : List Row) (tree : IsTree rows) (slaves : All IsRow rows) (measu
           ]
         ]
 
+    weight_is : (r : ℕ) → weight rows measures timed r ≡ weight_below rows measures (meeting rows measures q r) r + weight_below rows measures (meeting rows measures q r) q
+    weight_is r = ap (weight_to rows measures r) first
+
+    -- the reference itself
+    pub reference_weight : weight rows measures timed q ≡ 0
+    reference_weight =
+        let here : meeting rows measures q q ≡ q =
+        meeting_is rows tree measures q q reference_within ∙ ap (λ b. if b then q else higher_or q (meeting rows measures q) (measuring_parent rows measures q)) (over_self q reference_within) in
+        let same : nat_eq q q ≡ true = search (rules, nat_tests) in
+        let none : weight_below rows measures q q ≡ 0 = rw same refl in
+        let both = ap (λ c. weight_below rows measures c q) here in
+        let is = weight_is q in
+        omega (arith, is, both, none)
+
+    pub reference_delay : (laps : ℕ → Port → ℕ) → delay rows measures timed laps (order rows) q ≡ 0
+    reference_delay laps = ap (λ o. delay_from rows measures laps o q) first ∙ omega arith
+
     module _ (laps : ℕ → Port → ℕ) (g : ℕ) (latched : AreAllLatched rows measures g laps) where
       abbrev measured : ℕ → ℕ
       measured r = delay rows measures timed laps (order rows) r
-
-      weight_is : (r : ℕ) → weight rows measures timed r ≡ weight_below rows measures (meeting rows measures q r) r + weight_below rows measures (meeting rows measures q r) q
-      weight_is r = ap (weight_to rows measures r) first
 
       measured_is : (r : ℕ) → measured r ≡ ((ahead rows measures laps r + back rows measures laps q) - (back rows measures laps r + ahead rows measures laps q)) / 2
       measured_is r = ap (λ o. delay_from rows measures laps o r) first

@@ -46,9 +46,13 @@ pub fn hops_add_up()
 {}
 
 /// The measured delay of a clock is near the true one, which is no negative number: within half of its
-/// weight times g and of 1 ns, rounded down. With G of the round trip that is the delay bound, and so the
-/// delay of the reference is exact.
+/// weight times g and of 1 ns, rounded down. With G of the round trip that is the delay bound. The weight
+/// of the reference is 0, and so is its delay, exactly.
 pub fn measured_delays_are_near()
+    ensures reference { (rows : List Row) → IsTree rows → All IsRow rows → (measures : ℕ → Bool) → unmeasurable rows measures (order rows) ≡ None
+        → (timed : ℕ → Bool) → ((r : ℕ) → r < length rows → timed r ≡ true → measures r ≡ true)
+        → (first : ℕ) → reference rows timed ≡ Some first
+        → (weight rows measures timed first ≡ 0) × ((laps : ℕ → Port → ℕ) → delay rows measures timed laps (order rows) first ≡ 0) }
     ensures later { (rows : List Row) → IsTree rows → All IsRow rows → (measures : ℕ → Bool) → unmeasurable rows measures (order rows) ≡ None
         → (timed : ℕ → Bool) → ((r : ℕ) → r < length rows → timed r ≡ true → measures r ≡ true)
         → (first : ℕ) → reference rows timed ≡ Some first

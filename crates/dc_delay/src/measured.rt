@@ -23,8 +23,8 @@ pub type DelayList = ArrayVec<Option<u64>, 256>;
 
 /// The delays of the clocks, in ns: how much later than at the reference, which is the first clock in
 /// frame order, the frame came to each of them, by the latched times. A slave measures where it has a
-/// latch, and is a clock where it is timed. What is computed is a delay where every clock measures.
-/// After a refusal `out` is empty.
+/// latch, and is a clock where it is timed. The numbers are delays where every clock measures. After a
+/// refusal `out` is empty.
 pub fn delays(
     shape: &Shape,
     kinds: &[Kind],
