@@ -3,3 +3,4 @@ pub mod RunLemmas
 pub mod RowLemmas
 pub mod LegalLemmas
 pub mod FaultLemmas
+pub mod AnswerLemmas

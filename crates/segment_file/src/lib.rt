@@ -16,6 +16,7 @@ mod clock_checks;
 mod counts;
 mod drift_runs;
 mod frame_checks;
+pub mod laws;
 mod placing;
 mod seg_error;
 mod segment;
