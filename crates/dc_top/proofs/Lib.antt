@@ -1,5 +1,3 @@
-pub mod Members
-pub mod Rows
 pub mod Tables
 pub mod Requests
 pub mod Numerals

@@ -1,8 +1,10 @@
-pub mod Json
 pub mod LineFile
 pub mod Seen
 pub mod Table
 pub mod LineDelays
+pub mod CheckText
+pub mod SegFaults
+pub mod Refused
 pub mod Outcomes
 pub mod Answers
 pub mod Words
