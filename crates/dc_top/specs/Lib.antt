@@ -4,7 +4,6 @@ pub mod Table
 pub mod LineDelays
 pub mod CheckText
 pub mod SegFaults
-pub mod Refused
 pub mod Outcomes
 pub mod Answers
 pub mod Words

@@ -1,4 +1,4 @@
--- The faults of segment files: which check of a file each is, and its text.
+-- The faults of segment files: which check each is, and its text.
 use Rattle.std.specs.Prelude.{ℕ, List, ◌++◌, codes, decimal}
 use Rattle.segment_file.specs.declared.seg_error.ShapeTree.{ShapeTree}
 use Rattle.segment_file.specs.declared.seg_error.ShapeTree.TheVariants as tree
@@ -6,7 +6,10 @@ use Rattle.segment_file.specs.declared.seg_error.SegError.{SegError}
 use Rattle.segment_file.specs.declared.seg_error.SegError.TheVariants as error
 use Rattle.dc_top.specs.declared.seg_fault.SegFault.{SegFault}
 use Rattle.dc_top.specs.declared.seg_fault.SegFault.TheVariants.{Shape, Twice, Tree, Rate, NoReference, Unmeasurable, TooSlow, NoLock, Lead, LossRun, TooMuch}
+use Rattle.dc_top.specs.declared.segment_input.Refusal.{Refusal}
+use Rattle.dc_top.specs.declared.segment_input.Refusal.TheVariants as refusal
 
+-- the check that a file fails
 abbrev pub error_of : SegFault → SegError
 error_of (Shape path) = error.Shape path
 error_of (Twice id) = error.Twice id
@@ -19,6 +22,12 @@ error_of NoLock = error.NoLock
 error_of Lead = error.Lead
 error_of (LossRun number) = error.LossRun number
 error_of TooMuch = error.TooMuch
+
+-- the same of an input, whose text may be none
+abbrev pub refusal_error : Refusal → SegError
+refusal_error refusal.BadText = error.BadText
+refusal_error (refusal.BadSegment fault) = error_of fault
+refusal_error refusal.NoMemory = error.NoMemory
 
 abbrev pub tree_text : ShapeTree → List ℕ
 tree_text tree.Empty = codes "tree empty"

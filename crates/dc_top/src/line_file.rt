@@ -74,7 +74,12 @@ fn is_steady(row: &SlaveRow) -> bool
 fn are_steady(rows: &[SlaveRow]) -> bool
     ensures { result ≡ list_all is_steady (map row_seen rows.now) }
 {
-    rows.iter().all(|row| is_steady(row))
+    for row in rows {
+        if !is_steady(row) {
+            return false;
+        }
+    }
+    true
 }
 
 fn is_behind(position: usize, above: Option<Above>) -> bool
@@ -129,7 +134,7 @@ fn line_row(row: &SlaveRow) -> Row
 }
 
 fn line_rows(alloc: Global, rows: &[SlaveRow]) -> Result<Vec<Row>, NoMemory>
-    requires { All IsInRange (map slave_of (map row_seen rows.now)) }
+    requires { All (λ r. IsInRange (slave_of (row_seen r))) rows.now }
     ensures { IfOk result (λ v. map line_row_seen v.items ≡ map line_row (map row_seen rows.now)) }
 {
     let mut line = Vec::new(alloc);

@@ -1,7 +1,7 @@
 // The segment of an input.
-ghost use Rattle.std.specs.Prelude.{IfErr, IfOk};
-ghost use Rattle.segment_file.specs.Told.{IsSegmentText};
-ghost use Rattle.dc_top.specs.Refused.{IsRefused};
+ghost use Rattle.std.specs.Prelude.{◌≡◌, IfErr, IfOk};
+ghost use Rattle.segment_file.specs.Told.{IsSegmentText, IsTold};
+ghost use Rattle.dc_top.specs.SegFaults.{refusal_error};
 
 use crate::SegFault;
 use segment_file::{SegError, Segment, read_segment};
@@ -15,25 +15,33 @@ pub(crate) enum Refusal {
     NoMemory,
 }
 
-/// The segment of an input, or its first fault.
+fn refused(error: SegError) -> Refusal
+    ensures { refusal_error result ≡ error }
+{
+    match error {
+        SegError::BadText => Refusal::BadText,
+        SegError::Shape(path) => Refusal::BadSegment(SegFault::Shape(path)),
+        SegError::Twice(id) => Refusal::BadSegment(SegFault::Twice(id)),
+        SegError::Tree(tree) => Refusal::BadSegment(SegFault::Tree(tree)),
+        SegError::Rate(id) => Refusal::BadSegment(SegFault::Rate(id)),
+        SegError::NoReference => Refusal::BadSegment(SegFault::NoReference),
+        SegError::Unmeasurable(id) => Refusal::BadSegment(SegFault::Unmeasurable(id)),
+        SegError::TooSlow => Refusal::BadSegment(SegFault::TooSlow),
+        SegError::NoLock => Refusal::BadSegment(SegFault::NoLock),
+        SegError::Lead => Refusal::BadSegment(SegFault::Lead),
+        SegError::LossRun(number) => Refusal::BadSegment(SegFault::LossRun(number)),
+        SegError::TooMuch => Refusal::BadSegment(SegFault::TooMuch),
+        SegError::NoMemory => Refusal::NoMemory,
+    }
+}
+
+/// The segment of an input, or the first check that it fails.
 pub(crate) fn segment_in(alloc: Global, bytes: &[u8]) -> Result<Segment, Refusal>
     ensures read { IfOk result (IsSegmentText bytes.now) }
-    ensures refused { IfErr result (IsRefused bytes.now) }
+    ensures refused { IfErr result (λ r. IsTold bytes.now (refusal_error r)) }
 {
     match read_segment(alloc, bytes) {
         Ok(segment) => Ok(segment),
-        Err(SegError::BadText) => Err(Refusal::BadText),
-        Err(SegError::Shape(path)) => Err(Refusal::BadSegment(SegFault::Shape(path))),
-        Err(SegError::Twice(id)) => Err(Refusal::BadSegment(SegFault::Twice(id))),
-        Err(SegError::Tree(tree)) => Err(Refusal::BadSegment(SegFault::Tree(tree))),
-        Err(SegError::Rate(id)) => Err(Refusal::BadSegment(SegFault::Rate(id))),
-        Err(SegError::NoReference) => Err(Refusal::BadSegment(SegFault::NoReference)),
-        Err(SegError::Unmeasurable(id)) => Err(Refusal::BadSegment(SegFault::Unmeasurable(id))),
-        Err(SegError::TooSlow) => Err(Refusal::BadSegment(SegFault::TooSlow)),
-        Err(SegError::NoLock) => Err(Refusal::BadSegment(SegFault::NoLock)),
-        Err(SegError::Lead) => Err(Refusal::BadSegment(SegFault::Lead)),
-        Err(SegError::LossRun(number)) => Err(Refusal::BadSegment(SegFault::LossRun(number))),
-        Err(SegError::TooMuch) => Err(Refusal::BadSegment(SegFault::TooMuch)),
-        Err(SegError::NoMemory) => Err(Refusal::NoMemory),
+        Err(error) => Err(refused(error)),
     }
 }

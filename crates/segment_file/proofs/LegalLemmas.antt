@@ -1,13 +1,11 @@
 -- What a legal segment has.
-use Rattle.std.specs.Prelude.{◌≡◌, ℕ, zero, suc, ◌+◌, ◌*◌, ◌<◌, ◌≤◌, ℤ, pos, ◌≤ℤ◌, int_lt, nat_le, nat_lt, Bool, true, false, cond, if◌then◌else◌, ◌||◌, List, [], ◌∷◌, length, map, count_by, Option, Some, None, option_map, slice_index_or}
+use Rattle.std.specs.Prelude.{◌≡◌, ℕ, zero, suc, ◌+◌, ◌*◌, ◌≤◌, ℤ, pos, ◌≤ℤ◌, int_lt, nat_lt, Bool, true, false, cond, if◌then◌else◌, ◌||◌, List, [], ◌∷◌, map, count_by, Option, Some, None, option_map, slice_index_or}
 use Rattle.std.specs.List.{find}
-use Rattle.std.specs.Option.{is_none}
-use Rattle.std.proofs.Common.{arith, refl, subst, sym}
+use Rattle.std.proofs.Common.{arith, refl, subst}
 use Rattle.std.proofs.lemmas.Bool.Decides.{nat_tests}
 use Rattle.std.proofs.lemmas.Int.{ints}
 use Rattle.cable_tree.specs.Row.{Row}
 use Rattle.cable_tree.specs.FrameOrder.{order}
-use Rattle.dc_bounds.specs.Weight.{reference}
 use Rattle.segment_shape.specs.Head.{HeadValue}
 use Rattle.segment_shape.specs.declared.loss_row.LossRow.{LossRow}
 use Rattle.segment_file.specs.declared.counts.Counts.{Counts}
@@ -17,7 +15,7 @@ use Rattle.segment_file.specs.Runs.{first_run}
 use Rattle.segment_file.specs.Counted.{IsCounted}
 use Rattle.segment_file.specs.Legal.{IsLegal}
 use Rattle.segment_file.proofs.CountLemmas.{count_by-cons, counted}
-use Rattle.segment_file.specs.Faults.{Fault, no_lock, too_slow, lead, too_much, loss_run, first_of, fault_if, clock_fault, time_fault, fault_of, frame_fault, step_of, lock_in, frames_of_run, most_frames}
+use Rattle.segment_file.specs.Faults.{Fault, no_lock, too_much, loss_run, first_of, fault_if, clock_fault, time_fault, fault_of, frame_fault, step_of, lock_in, frames_of_run, most_frames}
 
 -- none of two faults
 neither : (f g : Option Fault) → first_of f g ≡ None → (f ≡ None) × (g ≡ None)

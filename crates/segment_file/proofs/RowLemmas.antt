@@ -1,14 +1,21 @@
 -- The rows of a segment and of its file.
-use Rattle.std.specs.Prelude.{◌≡◌, ℕ, List, [], ◌∷◌, length, map}
+use Rattle.std.specs.Prelude.{◌≡◌, ℕ, List, [], ◌∷◌, length, map, None}
 use Rattle.std.specs.List.{All}
-use Rattle.std.proofs.Common.{ap, refl}
+use Rattle.std.proofs.Common.{ap, refl, sym, subst, ◌∙◌, arith}
+use Rattle.std.proofs.lemmas.List.{length-map}
 use Rattle.std.proofs.lemmas.List.Elements.{All-map, All-weaker, All-nil, All-cons, All-head, All-tail}
 use Rattle.cable_tree.specs.Row.{IsRow}
 use Rattle.segment_shape.specs.Slaves.{SlaveValue}
-use Rattle.segment_shape.specs.Ranges.{IsSlave}
-use Rattle.segment_file.specs.Segment.{tree_row, tree_rows}
+use Rattle.segment_shape.specs.ShapeOf.{ShapeValue}
+use Rattle.segment_shape.specs.Twice.{first_again}
+use Rattle.segment_shape.specs.Ranges.{IsSlave, IsLoss, IsFile}
+use Rattle.cable_tree.specs.Segment.{IsTree}
+use Rattle.segment_file.specs.declared.slave_row.SlaveRow.{SlaveRow}
+use Rattle.segment_file.specs.Seen.{row_seen}
+use Rattle.segment_file.specs.Faults.{fault_of}
+use Rattle.segment_file.specs.Segment.{RowValue, tree_row, tree_rows}
 use Rattle.segment_file.specs.Placed.{placed_row, placed_rows}
-use Rattle.segment_file.specs.Legal.{IsClock}
+use Rattle.segment_file.specs.Legal.{IsClock, IsLegal}
 
 pub all_before_map : {X Y : Type 0} (P : X → Type 0) (f : Y → X) (ys : List Y) → All P (map f ys) → All (λ y. P (f y)) ys
 all_before_map P f [] all = All-nil (λ y. P (f y))
@@ -47,3 +54,25 @@ clocks_of_slaves cycle_ns slaves all =
 pub ids_stay : (ids : List (List ℕ)) (slaves : List SlaveValue) → map (λ r. r.id) (map (placed_row ids) slaves) ≡ map (λ s. s.id) slaves
 ids_stay ids [] = refl
 ids_stay ids (s ∷ slaves) = ap (λ x. s.id ∷ x) (ids_stay ids slaves)
+
+-- as many rows as slaves
+pub as_many : (rows : List SlaveRow) (slaves : List SlaveValue) → map row_seen rows ≡ placed_rows slaves → length rows ≡ length slaves
+as_many rows slaves e = sym (length-map rows row_seen) ∙ ap length e ∙ length-map slaves (placed_row (map (λ s. s.id) slaves))
+
+pub legal_rows : (shape : ShapeValue) → IsFile shape → (rows : List RowValue) → rows ≡ placed_rows shape.slaves → IsTree (tree_rows rows)
+    → fault_of (record { head = shape.head; rows = rows; losses = shape.losses }) ≡ None → IsLegal (record { head = shape.head; rows = rows; losses = shape.losses })
+legal_rows shape file rows e tree faultless =
+    let many : length rows ≡ length shape.slaves = ap length e ∙ length-map shape.slaves (placed_row (map (λ s. s.id) shape.slaves)) in
+    record {
+      head = file.head;
+      clocks = subst (All (IsClock shape.head.cycle_ns)) (sym e) (clocks_of_slaves shape.head.cycle_ns shape.slaves file.slaves);
+      few_losses = file.few_losses;
+      losses = subst (λ n. All (IsLoss n) shape.losses) (sym many) file.losses;
+      distinct = ap (λ rs. first_again [] (map (λ r. r.id) rs)) e ∙ ap (first_again []) (ids_stay (map (λ s. s.id) shape.slaves) shape.slaves) ∙ file.distinct;
+      tree = record {
+        tree = tree;
+        slaves = subst (λ rs. All IsRow (tree_rows rs)) (sym e) (rows_of_slaves shape.head.cycle_ns shape.slaves file.slaves);
+        few = omega (arith, file.few_slaves, many, length-map rows tree_row);
+      };
+      faultless = faultless;
+    }

@@ -1,10 +1,9 @@
 -- Marks of lost frames, and runs of them.
-use Rattle.std.specs.Prelude.{replicate, ◌≡◌, ℕ, zero, suc, ◌+◌, ◌-◌, ◌<◌, ◌≤◌, Bool, true, false, ◌&&◌, ◌||◌, if◌then◌else◌, List, [], ◌∷◌, ◌++◌, length, Option, Some, None, slice_index_or}
-use Rattle.std.specs.List.{find, list_all, list_any, range_with_len}
-use Rattle.std.proofs.Common.{arith, refl, sym, ap, ◌∙◌, get_or}
+use Rattle.std.specs.Prelude.{replicate, ◌≡◌, ℕ, zero, suc, ◌+◌, ◌-◌, ◌<◌, ◌≤◌, Bool, true, false, List, [], ◌∷◌, length, Some, None}
+use Rattle.std.specs.List.{find, list_all, range_with_len}
+use Rattle.std.proofs.Common.{arith, refl, ap, ◌∙◌, get_or}
 use Rattle.std.proofs.lemmas.List.{length-replicate}
-use Rattle.segment_shape.specs.declared.loss_row.LossRow.{LossRow}
-use Rattle.segment_file.specs.Runs.{is_lost, is_run, last_number, AreMarks}
+use Rattle.segment_file.specs.Runs.{last_number, AreMarks}
 
 get_or-clear : (n i : ℕ) → get_or (replicate n false) i false ≡ false
 get_or-clear zero i = refl
@@ -49,3 +48,7 @@ run_on p a n k h is = rw (count_step a n k h, is) refl
 
 pub run_whole : (p : ℕ → Bool) (a n k : ℕ) → n ≤ k → list_all p (range_with_len (a + k) (n - k)) ≡ true
 run_whole p a n k h = let e : n - k ≡ 0 = omega arith in rw e refl
+
+-- the search begins with number 1
+pub whole_range : (p : ℕ → Bool) (n : ℕ) → find p (range_with_len 1 n) ≡ find p (range_with_len 1 ((n + 1) - 1))
+whole_range p n = let e : (n + 1) - 1 ≡ n = omega arith in rw e refl

@@ -2,7 +2,6 @@
 use Rattle.std.specs.Prelude.{ℕ, ◌+◌, ◌-◌, ◌*◌, nat_le, nat_lt, ℤ, pos, int_lt, Bool, not, ◌&&◌, ◌||◌, List, [], map, Option, Some, None, option_map, if◌then◌else◌, slice_index_or}
 use Rattle.std.specs.List.{find, list_all}
 use Rattle.std.specs.Option.{is_none}
-use Rattle.osc_clock.specs.Ticks.{Rate}
 use Rattle.cable_tree.specs.FrameOrder.{order}
 use Rattle.cable_tree.specs.PathSums.{round_trip}
 use Rattle.cable_tree.specs.Row.{Row}

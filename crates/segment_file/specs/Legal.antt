@@ -1,5 +1,5 @@
 -- Segments that are legal.
-use Rattle.std.specs.Prelude.{◌≡◌, ℕ, ◌<◌, ◌≤◌, true, [], List, length, map, None, IfSome}
+use Rattle.std.specs.Prelude.{◌≡◌, ℕ, ◌<◌, ◌≤◌, true, [], length, map, None, IfSome}
 use Rattle.std.specs.List.{All}
 use Rattle.osc_clock.specs.Ticks.{AreRising}
 use Rattle.cable_tree.specs.Kept.{IsSegment}

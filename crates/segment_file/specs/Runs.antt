@@ -1,5 +1,5 @@
 -- Drift frames that are lost in a row.
-use Rattle.std.specs.Prelude.{◌≡◌, ℕ, ◌+◌, ◌<◌, Bool, false, Option, List, length, slice_index_or}
+use Rattle.std.specs.Prelude.{◌≡◌, ℕ, ◌<◌, Bool, false, Option, List, length, slice_index_or}
 use Rattle.std.specs.List.{find, list_all, range_with_len}
 use Rattle.segment_shape.specs.Losses.{is_listed}
 use Rattle.segment_shape.specs.declared.loss_row.Phase.TheVariants.{Drift}

@@ -1,19 +1,16 @@
 -- Legal files, and what each refusal says of a file.
-use Rattle.std.specs.Prelude.{◌≡◌, ℕ, List, Option, Some, None, Ok, Err, IsUtf8}
+use Rattle.std.specs.Prelude.{◌≡◌, ℕ, List, Some, None, Ok, Err, IsUtf8}
 use Rattle.serde_json.specs.Data.{Data}
 use Rattle.serde_json.specs.Read.{read}
 use Rattle.cable_tree.specs.Segment.{IsTree}
 use Rattle.cable_tree.specs.Refusals as tree
 use Rattle.cable_tree.specs.declared.error.TreeError.{TreeError}
-use Rattle.cable_tree.specs.declared.error.TreeError.TheVariants as error
 use Rattle.segment_shape.specs.ShapeOf.{ShapeValue, bad_shape, id_twice, file_of}
 use Rattle.segment_shape.specs.Told.{IsText}
 use Rattle.segment_file.specs.Segment.{SegmentValue, tree_rows}
 use Rattle.segment_file.specs.Placed.{placed, placed_rows}
-use Rattle.segment_file.specs.FaultOf.{IsFaultOf}
+use Rattle.segment_file.specs.FaultOf.{IsFaultOf, IsTreeFault, tree_error}
 use Rattle.segment_file.specs.Faults.{Fault, rate, no_reference, unmeasured, too_slow, no_lock, lead, loss_run, too_much, fault_of}
-use Rattle.segment_file.specs.declared.seg_error.ShapeTree.{ShapeTree}
-use Rattle.segment_file.specs.declared.seg_error.ShapeTree.TheVariants as shape
 use Rattle.segment_file.specs.declared.seg_error.SegError.{SegError}
 use Rattle.segment_file.specs.declared.seg_error.SegError.TheVariants.{BadText, Shape, Twice, Tree, Rate, NoReference, Unmeasurable, TooSlow, NoLock, Lead, LossRun, TooMuch, NoMemory}
 
@@ -42,13 +39,6 @@ pub record HasFault (d : Data) (f : Fault) : Type 0 where
   pub tree : IsTree (tree_rows segment.rows)
   pub fault : fault_of segment ≡ Some f
 
-abbrev pub tree_error : ShapeTree → TreeError
-tree_error shape.Empty = error.Empty
-tree_error (shape.NoParent r) = error.NoParent r
-tree_error (shape.TwoRoots r) = error.TwoRoots r
-tree_error (shape.PortTaken r) = error.PortTaken r
-tree_error (shape.Cycle r) = error.Cycle r
-
 -- the first check that a JSON value fails; that memory was refused says nothing of it
 abbrev pub IsRefused : Data → SegError → Type 0
 IsRefused d BadText = ⊥
@@ -70,7 +60,7 @@ abbrev pub IsRefusal : ShapeValue → SegError → Type 0
 IsRefusal shape BadText = ⊥
 IsRefusal shape (Shape path) = ⊥
 IsRefusal shape (Twice id) = ⊥
-IsRefusal shape (Tree t) = tree.IsRefused (tree_rows (placed_rows shape.slaves)) (tree_error t)
+IsRefusal shape (Tree t) = IsTreeFault (tree_rows (placed_rows shape.slaves)) (Tree t)
 IsRefusal shape NoMemory = Unit {0}
 IsRefusal shape e = IsTree (tree_rows (placed_rows shape.slaves)) × IsFaultOf (fault_of (placed shape)) e
 

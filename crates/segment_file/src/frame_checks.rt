@@ -1,12 +1,22 @@
 ghost use Rattle.std.specs.Prelude.{◌≡◌, ◌≤◌, ◌*◌, IfErr, OnOk, pos, ◌≤ℤ◌, nat_lt, None};
-ghost use Rattle.segment_shape.specs.Ranges.{IsHead};
+ghost use Rattle.std.specs.List.{All};
+ghost use Rattle.segment_shape.specs.Ranges.{IsHead, IsLoss};
 ghost use Rattle.segment_shape.specs.Seen.{head_seen};
 ghost use Rattle.segment_file.specs.Counted.{IsCounted};
-ghost use Rattle.segment_file.specs.Faults.{frames_of_run, lock_in, step_of};
+ghost use Rattle.segment_file.specs.FaultOf.{IsFaultOf};
+ghost use Rattle.segment_file.specs.Faults.{frame_fault, frames_of_run, lock_in, most_frames, step_of};
 
 use crate::counts::Counts;
+use crate::drift_runs::first_run;
+use crate::seg_error::SegError;
 use dc_bounds::{lock_count, reach_fs, run_frames};
-use segment_shape::Head;
+use segment_shape::{Head, LossRow};
+use std::alloc::Global;
+
+/// The most frames of a run, and the most edges.
+const MOST_FRAMES: u128 = 100_000;
+
+const MOST_EDGES: u64 = 200_000;
 
 /// K.
 pub(crate) fn lock_in(head: Head, counts: Counts) -> u128
@@ -39,4 +49,58 @@ pub(crate) fn frames_of_run(head: Head, counts: Counts) -> u128
         head.cycle_ns,
         head.cycles,
     )
+}
+
+// Whether a run may have too many frames.
+fn has_too_many_frames(head: Head, counts: Counts) -> bool
+    requires head { IsHead (head_seen head) }
+    requires counts { IsCounted counts }
+    requires some { 1 ≤ counts.clocks }
+    requires step { pos 1 ≤ℤ step_of (head_seen head) }
+    ensures { result ≡ nat_lt 100000 (most_frames (head_seen head) counts) }
+{
+    let exchanges = u128::from(counts.slaves)
+        + u128::from(counts.measuring)
+        + u128::from(counts.clocks)
+        + 3;
+    let others = 3 * exchanges + u128::from(head.loss_run) + 1 + 3 * u128::from(counts.clocks);
+    let frames = others
+        .saturating_add(lock_in(head, counts))
+        .saturating_add(frames_of_run(head, counts));
+    frames > MOST_FRAMES
+}
+
+// Whether a run has too many edges.
+fn has_too_many_edges(head: Head, counts: Counts) -> bool
+    requires head { IsHead (head_seen head) }
+    requires counts { IsCounted counts }
+    ensures { result ≡ nat_lt 200000 (head.cycles * counts.signals) }
+{
+    u64::from(head.cycles) * u64::from(counts.signals) > MOST_EDGES
+}
+
+/// Whether the frames are without fault: never more than `loss_run` drift frames are lost in a row, and
+/// a run has few enough frames and edges.
+#[tactic(auto, unfolding(crate::specs::Faults::frame_fault))]
+pub(crate) fn check_frames(
+    alloc: Global,
+    head: Head,
+    counts: Counts,
+    losses: &[LossRow],
+) -> Result<(), SegError>
+    requires head { IsHead (head_seen head) }
+    requires counts { IsCounted counts }
+    requires some { 1 ≤ counts.clocks }
+    requires step { pos 1 ≤ℤ step_of (head_seen head) }
+    requires losses { All (IsLoss counts.slaves) losses.now }
+    ensures ok { OnOk result (frame_fault (head_seen head) counts losses.now ≡ None) }
+    ensures err { IfErr result (IsFaultOf (frame_fault (head_seen head) counts losses.now)) }
+{
+    if let Some(number) = first_run(alloc, counts.slaves, losses, u32::from(head.loss_run) + 1)? {
+        return Err(SegError::LossRun(number));
+    }
+    if has_too_many_frames(head, counts) || has_too_many_edges(head, counts) {
+        return Err(SegError::TooMuch);
+    }
+    Ok(())
 }

@@ -11,8 +11,12 @@
 //! is in `specs/Placed.antt`, the checks in `specs/Faults.antt` and their order in `specs/Told.antt`.
 #![tactic(auto)]
 
+mod checks;
+mod clock_checks;
 mod counts;
+mod drift_runs;
 mod frame_checks;
+mod placing;
 mod seg_error;
 mod segment;
 mod slave_row;

@@ -1,17 +1,22 @@
 ghost use Rattle.std.specs.Prelude.{◌≡◌, ◌≤◌, IfErr, IfOk, Some, map, pos, ◌≤ℤ◌};
+ghost use Rattle.segment_shape.specs.Ranges.{IsFile};
+ghost use Rattle.segment_shape.specs.Seen.{shape_seen};
 ghost use Rattle.segment_file.specs.Faults.{frames_of_run, lock_in, step_of};
 ghost use Rattle.segment_file.specs.Legal.{IsLegal};
+ghost use Rattle.segment_file.specs.Placed.{placed};
 ghost use Rattle.segment_file.specs.Seen.{row_seen};
 ghost use Rattle.segment_file.specs.Segment.{clocks, counts_of, measuring, reference_row, tree_rows};
-ghost use Rattle.segment_file.specs.Told.{IsSegmentText, IsTold};
+ghost use Rattle.segment_file.specs.Told.{IsRefusal, IsSegmentText, IsTold};
 
+use crate::checks::{check, tree_of};
 use crate::counts::Counts;
 use crate::frame_checks::{frames_of_run, lock_in};
+use crate::placing::placed_rows;
 use crate::seg_error::SegError;
 use crate::slave_row::SlaveRow;
 use crate::time_checks::step_of;
 use cable_tree::Tree;
-use segment_shape::{Head, LossRow};
+use segment_shape::{Head, LossRow, Shape, read_shape};
 use std::alloc::Global;
 use std::marker::Model;
 
@@ -174,12 +179,32 @@ impl Segment {
     }
 }
 
+// The segment that a shape describes, where it passes the checks of the tree and those behind it.
+fn segment_of(alloc: Global, shape: Shape) -> Result<Segment, SegError>
+    requires { IsFile (shape_seen shape) }
+    ensures ok { IfOk result (λ s. (s ≡ placed (shape_seen shape)) × IsLegal s) }
+    ensures err { IfErr result (IsRefusal (shape_seen shape)) }
+{
+    let rows = placed_rows(alloc, shape.rows)?;
+    let tree = tree_of(alloc, &rows)?;
+    let checked = check(alloc, shape.head, &rows, &tree, &shape.losses)?;
+    Ok(Segment {
+        head: shape.head,
+        rows,
+        losses: shape.losses,
+        tree,
+        reference: checked.reference,
+        counts: checked.counts,
+    })
+}
+
 /// Reads the bytes of a segment file.
 ///
 /// The first check that fails is answered, in the order of [`SegError`].
-pub fn read_segment(_alloc: Global, bytes: &[u8]) -> Result<Segment, SegError>
+pub fn read_segment(alloc: Global, bytes: &[u8]) -> Result<Segment, SegError>
     ensures read { IfOk result (IsSegmentText bytes.now) }
     ensures refused { IfErr result (IsTold bytes.now) }
 {
-    Err(SegError::NoMemory)
+    let shape = read_shape(alloc, bytes)?;
+    segment_of(alloc, shape)
 }

@@ -1,7 +1,12 @@
+ghost use Rattle.std.specs.Prelude.{◌≡◌, ◌≤◌, length, map};
+ghost use Rattle.segment_file.specs.Segment.{is_clock, is_measuring};
+ghost use Rattle.segment_file.specs.Seen.{row_seen};
+
+use arrayvec::ArrayVec;
 use cable_tree::Above;
 use esc_regs::ClockKind;
 use osc_clock::RateList;
-use segment_shape::Id;
+use segment_shape::{Id, has_clock, measures};
 
 /// A slave of a segment. The numbers of its clock are 0, empty or None where it has none: all of them at a
 /// slave of kind None, shift and SYNC1 time at one of kind R32.
@@ -30,4 +35,31 @@ pub struct SlaveRow {
     pub shift_ns: u32,
     /// SYNC1 after SYNC0, from 1 on and below the cycle time.
     pub sync1_ns: Option<u32>,
+}
+
+/// A flag for each row.
+pub(crate) type Flags = ArrayVec<bool, 256>;
+
+/// Which slaves take receive times.
+pub(crate) fn measuring_flags(rows: &[SlaveRow]) -> Flags
+    requires { length rows.now ≤ 256 }
+    ensures { result.items ≡ map is_measuring (map row_seen rows.now) }
+{
+    let mut flags = Flags::new();
+    for row in rows {
+        flags.push(measures(row.kind));
+    }
+    flags
+}
+
+/// Which slaves are clocks.
+pub(crate) fn clock_flags(rows: &[SlaveRow]) -> Flags
+    requires { length rows.now ≤ 256 }
+    ensures { result.items ≡ map is_clock (map row_seen rows.now) }
+{
+    let mut flags = Flags::new();
+    for row in rows {
+        flags.push(has_clock(row.kind));
+    }
+    flags
 }
