@@ -22,4 +22,5 @@ mod words;
 
 pub use outcome::Outcome;
 pub use seg_fault::SegFault;
+pub use segment_file::{Id, KeyPath, ShapeTree};
 pub use top::dc_main;

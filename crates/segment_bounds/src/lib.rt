@@ -1,15 +1,14 @@
-//! Stand-in.
+//! The bounds of one segment: how near the measured delays of its clocks are to the true ones, how near
+//! their local copies stay to that of the reference, and how far apart edges of one index can be.
+//!
+//! Each call puts the numbers of a legal segment into the formulas of `dc_bounds`. All are in fs, none
+//! takes memory, and a clock is named by its row. Contracts cite `specs/Bounds.antt` and
+//! `specs/Window.antt`.
 #![tactic(auto)]
 
-ghost use Rattle.std.specs.Prelude.{◌≡◌};
-ghost use Rattle.segment_bounds.specs.Window.{window_of};
+mod bounds;
+mod signal;
+mod windows;
 
-use segment_file::Segment;
-
-/// The greatest window.
-#[tactic(auto, unfolding(crate::specs::Window::window_of))]
-pub fn window(_segment: &Segment) -> u128
-    ensures { result ≡ window_of _segment.now }
-{
-    0
-}
+pub use bounds::{copy_bound, delay_bound, true_delay};
+pub use windows::window;

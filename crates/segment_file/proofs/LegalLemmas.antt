@@ -1,11 +1,13 @@
 -- What a legal segment has.
-use Rattle.std.specs.Prelude.{◌≡◌, ℕ, zero, suc, ◌+◌, ◌*◌, ◌≤◌, ℤ, pos, ◌≤ℤ◌, int_lt, nat_lt, Bool, true, false, cond, if◌then◌else◌, ◌||◌, List, [], ◌∷◌, map, count_by, Option, Some, None, option_map, slice_index_or}
+use Rattle.std.specs.Prelude.{◌≡◌, ℕ, zero, suc, ◌+◌, ◌*◌, ◌<◌, length, nat_le, ◌≤◌, ℤ, pos, ◌≤ℤ◌, int_lt, nat_lt, Bool, true, false, cond, if◌then◌else◌, ◌||◌, List, [], ◌∷◌, map, count_by, Option, Some, None, option_map, slice_index_or}
 use Rattle.std.specs.List.{find}
 use Rattle.std.proofs.Common.{arith, refl, subst}
 use Rattle.std.proofs.lemmas.Bool.Decides.{nat_tests}
 use Rattle.std.proofs.lemmas.Int.{ints}
 use Rattle.cable_tree.specs.Row.{Row}
 use Rattle.cable_tree.specs.FrameOrder.{order}
+use Rattle.cable_tree.specs.PathSums.{round_trip}
+use Rattle.dc_bounds.specs.LockNumbers.{period_fs}
 use Rattle.segment_shape.specs.Head.{HeadValue}
 use Rattle.segment_shape.specs.declared.loss_row.LossRow.{LossRow}
 use Rattle.segment_file.specs.declared.counts.Counts.{Counts}
@@ -15,7 +17,7 @@ use Rattle.segment_file.specs.Runs.{first_run}
 use Rattle.segment_file.specs.Counted.{IsCounted}
 use Rattle.segment_file.specs.Legal.{IsLegal}
 use Rattle.segment_file.proofs.CountLemmas.{count_by-cons, counted}
-use Rattle.segment_file.specs.Faults.{Fault, no_lock, too_much, loss_run, first_of, fault_if, clock_fault, time_fault, fault_of, frame_fault, step_of, lock_in, frames_of_run, most_frames}
+use Rattle.segment_file.specs.Faults.{Fault, too_slow, no_lock, too_much, loss_run, first_of, fault_if, clock_fault, time_fault, fault_of, frame_fault, step_of, lock_in, frames_of_run, most_frames}
 
 -- none of two faults
 neither : (f g : Option Fault) → first_of f g ≡ None → (f ≡ None) × (g ≡ None)
@@ -46,6 +48,14 @@ found_passes p (x ∷ xs) r e = found_case p x r (find p xs) (p x) refl e (λ h.
 -- the reference is one of the clocks
 pub some_clock : (rows : List RowValue) (r : ℕ) → reference_row rows ≡ Some r → 1 ≤ clocks rows
 some_clock rows r e = counted_one is_clock rows r (found_passes (clock_at rows) (order (tree_rows rows)) r e)
+
+flag_within : {X : Type 0} (p : X → Bool) (xs : List X) (r : ℕ) → slice_index_or (map p xs) r false ≡ true → r < length xs
+flag_within p [] r e = absurd cc
+flag_within p (x ∷ xs) zero e = omega arith
+flag_within p (x ∷ xs) (suc r) e = omega (arith, flag_within p xs r e)
+
+pub reference_within : (rows : List RowValue) (r : ℕ) → reference_row rows ≡ Some r → r < length rows
+reference_within rows r e = flag_within is_clock rows r (found_passes (clock_at rows) (order (tree_rows rows)) r e)
 
 not_below : (z : ℤ) → int_lt z (pos 1) ≡ false → pos 1 ≤ℤ z
 not_below z e = grind (arith, ints)
@@ -89,3 +99,13 @@ few_to_lock s legal = omega (arith, legal_frames s legal)
 
 pub few_in_run : (s : SegmentValue) → IsLegal s → frames_of_run s.head (counts_of s.rows) ≤ 100000
 few_in_run s legal = omega (arith, legal_frames s legal)
+
+short_trip : (trip period : ℕ) (later : Option Fault) → first_of (fault_if too_slow (nat_le period trip)) later ≡ None → trip < period
+short_trip trip period later e =
+    let test = unfound too_slow (nat_le period trip) (neither (fault_if too_slow (nat_le period trip)) later e).0 in
+    grind (arith, nat_tests, test)
+
+-- a frame comes back within a period
+pub legal_round_trip : (s : SegmentValue) → IsLegal s → round_trip (tree_rows s.rows) < period_fs s.head.frame_ns
+unfolding time_fault
+legal_round_trip s legal = short_trip _ _ _ (faultless s legal.faultless).1

@@ -24,5 +24,5 @@ mod time_checks;
 
 pub use seg_error::{SegError, ShapeTree};
 pub use segment::{Segment, read_segment};
-pub use segment_shape::{Id, KeyPath, LossRow, Phase};
-pub use slave_row::SlaveRow;
+pub use segment_shape::{Id, KeyPath, LossRow, Phase, has_clock, measures};
+pub use slave_row::{Flags, SlaveRow, clock_flags, measuring_flags};

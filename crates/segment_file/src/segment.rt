@@ -1,4 +1,4 @@
-ghost use Rattle.std.specs.Prelude.{◌≡◌, ◌≤◌, IfErr, IfOk, Some, map, pos, ◌≤ℤ◌};
+ghost use Rattle.std.specs.Prelude.{◌≡◌, ◌<◌, ◌≤◌, IfErr, IfOk, Some, length, map, pos, ◌≤ℤ◌};
 ghost use Rattle.segment_shape.specs.Ranges.{IsFile};
 ghost use Rattle.segment_shape.specs.Seen.{shape_seen};
 ghost use Rattle.segment_file.specs.Faults.{frames_of_run, lock_in, step_of};
@@ -135,7 +135,8 @@ impl Segment {
 
     /// The row of the reference clock.
     pub fn reference(&self) -> u16
-        ensures { reference_row self.now.rows ≡ Some result }
+        ensures is { reference_row self.now.rows ≡ Some result }
+        ensures row { result < length self.now.rows }
     {
         self.reference
     }

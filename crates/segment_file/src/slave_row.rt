@@ -38,10 +38,10 @@ pub struct SlaveRow {
 }
 
 /// A flag for each row.
-pub(crate) type Flags = ArrayVec<bool, 256>;
+pub type Flags = ArrayVec<bool, 256>;
 
 /// Which slaves take receive times.
-pub(crate) fn measuring_flags(rows: &[SlaveRow]) -> Flags
+pub fn measuring_flags(rows: &[SlaveRow]) -> Flags
     requires { length rows.now ≤ 256 }
     ensures { result.items ≡ map is_measuring (map row_seen rows.now) }
 {
@@ -53,7 +53,7 @@ pub(crate) fn measuring_flags(rows: &[SlaveRow]) -> Flags
 }
 
 /// Which slaves are clocks.
-pub(crate) fn clock_flags(rows: &[SlaveRow]) -> Flags
+pub fn clock_flags(rows: &[SlaveRow]) -> Flags
     requires { length rows.now ≤ 256 }
     ensures { result.items ≡ map is_clock (map row_seen rows.now) }
 {
