@@ -1,7 +1,7 @@
 -- The signals of a segment, one row on.
 use Rattle.std.specs.Prelude.{◌≡◌, ℕ, ◌+◌, ◌<◌, List, ◌++◌, length, map, drop, slice_index_or}
 use Rattle.std.specs.List.{All}
-use Rattle.std.proofs.Common.{ap, sym, subst, ◌∙◌, add-one, arith, append_assoc}
+use Rattle.std.proofs.Common.{ap, sym, subst, ◌∙◌, add-one, arith}
 use Rattle.std.proofs.Math.Seq.{drop-cons}
 use Rattle.std.proofs.lemmas.List.{get_or-map, length-map}
 use Rattle.std.proofs.lemmas.List.Elements.{All-get_or}

@@ -1,5 +1,5 @@
 -- How far apart the edges of one index can be, shifts taken off.
-use Rattle.std.specs.Prelude.{ℕ, zero, suc, ◌+◌, ◌-◌, nat_eq, max, if◌then◌else◌, List, [], ◌∷◌, ◌++◌, Option, Some, None}
+use Rattle.std.specs.Prelude.{ℕ, suc, ◌+◌, ◌-◌, nat_eq, max, if◌then◌else◌, List, [], ◌∷◌, ◌++◌, Option, Some, None}
 use Rattle.dc_bounds.specs.CopyBound.{window}
 use Rattle.segment_file.specs.Segment.{RowValue, SegmentValue, is_clock}
 use Rattle.segment_bounds.specs.Bounds.{copy_bound_at}

@@ -12,3 +12,6 @@ mod windows;
 
 pub use bounds::{copy_bound, delay_bound, true_delay};
 pub use windows::window;
+
+#[cfg(test)]
+mod tests;

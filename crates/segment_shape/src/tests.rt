@@ -114,258 +114,102 @@ fn a_file_is_read(rt: HostRuntime) {
     );
 }
 
-/// Each row edits the file in one place.
-fn check_edits(rt: &impl Abort, alloc: Global, edits: &[(&str, &str, &str)]) {
-    for (old, new, told) in edits {
-        let file = edited(rt, alloc, FILE, old, new);
-        assert_eq!(rt; answer(rt, alloc, &file).as_str(), *told, "{old} as {new}");
+/// Edits of the file, a line each, and what is answered: a text, the one in its place, and the answer. A line
+/// may have two edits: of two faults the first in the order of the checks is told, wherever it stands.
+const EDITS: &str = r#"{| {|ok
+]}|]|not JSON
+15,|1e999,|not JSON
+{|[{|not JSON
+"ppm":100|"ppm":101,"ppm":0|ok
+"cycle_ns":50000|"cycle_ns":50001|ok
+"ppm":100|"ppm":0,"ppm":101|shape ppm
+"version":2|"version":3|shape version
+"version":2|"version":0|shape version
+100|1e2|shape ppm
+100|-0|shape ppm
+"frame_ns":50000|"frame_ns":49999|shape frame_ns
+"frame_ns":50000|"frame_ns":10000001|shape frame_ns
+16383|16384|shape speed
+16383|127|shape speed
+"speed":16383,||shape speed
+15|16|shape loss_run
+4000000000000000000|4000000000000000001|shape epoch_ns
+"cycle_ns":50000|"cycle_ns":500000001|shape cycle_ns
+"cycles":1|"cycles":100001|shape cycles
+"cycles":1|"cycles":0|shape cycles
+"slaves":[|"slaves":1,"x":[|shape slaves
+"losses":[|"losses":null,"x":[|shape losses
+"losses":[|"x":[|shape $
+"version":2|"version":1|shape slaves[0]
+"slaves":[|"slaves":[[],|shape slaves[0]
+"id":"A"|"id":""|shape slaves[0].id
+"A"|"A."|shape slaves[0].id
+sixteen_letters_|sixteen_letters_1|shape slaves[3].id
+c64|C64|shape slaves[0].clock
+"tp_ns":1|"tp_ns":0|shape slaves[0].tp_ns
+10000|10001|shape slaves[0].tf_ns
+"cable_ps":100000000|"cable_ps":100000001|shape slaves[1].cable_ps
+"nobody"|null|shape slaves[2].parent
+"parent":"A",||shape slaves[1].port
+,"port":3||shape slaves[1].port
+"port":3|"port":4|shape slaves[1].port
+"port":1|"port":0|shape slaves[2].port
+"cable_ps":11|"cable_ps":11,"rates":[]|shape slaves[3]
+18446744073709551615|18446744073709551616|shape slaves[0].start
+4294967295|4294967296|shape slaves[1].start
+"cable_ps":11|"cable_ps":11,"start":0|shape slaves[3].start
+"cable_ps":11|"cable_ps":11,"phase_fs":1|shape slaves[3].phase_fs
+"period_fs":20000000|"period_fs":20000001|shape slaves[0].period_fs
+"period_fs":8|"period_fs":0|shape slaves[2].period_fs
+"rates":[]|"rates":{}|shape slaves[2].rates
+"rates":[{|"rates":[0,{|shape slaves[0].rates[0]
+"tick":1,|"tick":0,|shape slaves[0].rates[0].tick
+"tick":1000000000000|"tick":1|shape slaves[0].rates[1].tick
+000,"period_fs":20000000}|000,"period_fs":0}|shape slaves[0].rates[1].period_fs
+"tick":1,|"tick":1,"x":1,|shape slaves[0].rates[0]
+"tick":1,|"tick":1000000000000,|shape slaves[0].rates[1].tick
+49999,|50000,|shape slaves[0].shift_ns
+"sync1_ns":1}|"sync1_ns":0}|shape slaves[0].sync1_ns
+"sync1_ns":1}|"sync1_ns":50000}|shape slaves[0].sync1_ns
+"period_fs":8|"period_fs":8,"shift_ns":0|shape slaves[2].shift_ns
+"period_fs":8|"period_fs":8,"sync1_ns":1|shape slaves[2].sync1_ns
+"phase":"drift"|"phase":"Drift"|shape losses[0].phase
+"number":2|"number":0|shape losses[0].number
+"number":2|"number":100001|shape losses[0].number
+commission|drift|shape losses[1].number
+"after":4|"after":5|shape losses[0].after
+"after":4|"after":4,"x":0|shape losses[0]
+"b-_Z09"|"A"|twice A
+"C"|"b-_Z09"|twice b-_Z09
+15,|16,|"ppm":100|"ppm":101|shape ppm
+{|{"x":0,|"cycles":1|"cycles":0|shape cycles
+{|{"x":0,|"losses":[|"losses":0,"y":[|shape losses
+{|{"x":0,|"A"|""|shape $
+"after":4|"after":5|"A"|"C"|shape losses[0].after
+"tick":1,|"tick":0,|"id":"C"|"id":"A"|shape slaves[0].rates[0].tick
+{"id":"A"|{"y":0,"id":"A"|49999|50000|shape slaves[0].shift_ns
+"#;
+
+fn check_line(rt: &impl Abort, alloc: Global, line: &str) {
+    let mut file = String::from_str(alloc, FILE).expect(rt, "memory");
+    let mut rest = line;
+    for _ in 0..2 {
+        let Some((old, after)) = rest.split_once('|') else {
+            break;
+        };
+        let Some((new, told)) = after.split_once('|') else {
+            panic!(rt; "{line}");
+        };
+        file = edited(rt, alloc, &file, old, new);
+        rest = told;
     }
+    assert_eq!(rt; answer(rt, alloc, &file).as_str(), rest, "{line}");
 }
 
 #[test]
-fn texts_that_are_read_or_are_no_json(rt: HostRuntime) {
-    let edits = [
-        ("{", " {", "ok"),
-        ("]}", "]", "not JSON"),
-        ("15,", "1e999,", "not JSON"),
-        ("{", "[{", "not JSON"),
-        (r#""ppm":100"#, r#""ppm":101,"ppm":0"#, "ok"),
-        ("\"cycle_ns\":50000", "\"cycle_ns\":50001", "ok"),
-    ];
-    check_edits(&rt, rt.alloc(), edits.as_slice());
-}
-
-#[test]
-fn faults_of_the_head_1(rt: HostRuntime) {
-    let edits = [
-        (r#""ppm":100"#, r#""ppm":0,"ppm":101"#, "shape ppm"),
-        ("\"version\":2", "\"version\":3", "shape version"),
-        ("\"version\":2", "\"version\":0", "shape version"),
-        ("100", "1e2", "shape ppm"),
-        ("100", "-0", "shape ppm"),
-        ("\"frame_ns\":50000", "\"frame_ns\":49999", "shape frame_ns"),
-        (
-            "\"frame_ns\":50000",
-            "\"frame_ns\":10000001",
-            "shape frame_ns",
-        ),
-        ("16383", "16384", "shape speed"),
-        ("16383", "127", "shape speed"),
-        (r#""speed":16383,"#, "", "shape speed"),
-        ("15", "16", "shape loss_run"),
-        (
-            "4000000000000000000",
-            "4000000000000000001",
-            "shape epoch_ns",
-        ),
-    ];
-    check_edits(&rt, rt.alloc(), edits.as_slice());
-}
-
-#[test]
-fn faults_of_the_head_2(rt: HostRuntime) {
-    let edits = [
-        (
-            "\"cycle_ns\":50000",
-            "\"cycle_ns\":500000001",
-            "shape cycle_ns",
-        ),
-        ("\"cycles\":1", "\"cycles\":100001", "shape cycles"),
-        ("\"cycles\":1", "\"cycles\":0", "shape cycles"),
-        ("\"slaves\":[", "\"slaves\":1,\"x\":[", "shape slaves"),
-        ("\"losses\":[", "\"losses\":null,\"x\":[", "shape losses"),
-        ("\"losses\":[", "\"x\":[", "shape $"),
-    ];
-    check_edits(&rt, rt.alloc(), edits.as_slice());
-}
-
-#[test]
-fn faults_of_slaves_1(rt: HostRuntime) {
-    let edits = [
-        ("\"version\":2", "\"version\":1", "shape slaves[0]"),
-        ("\"slaves\":[", "\"slaves\":[[],", "shape slaves[0]"),
-        ("\"id\":\"A\"", "\"id\":\"\"", "shape slaves[0].id"),
-        ("\"A\"", "\"A.\"", "shape slaves[0].id"),
-        (
-            "sixteen_letters_",
-            "sixteen_letters_1",
-            "shape slaves[3].id",
-        ),
-        ("c64", "C64", "shape slaves[0].clock"),
-        ("\"tp_ns\":1", "\"tp_ns\":0", "shape slaves[0].tp_ns"),
-        ("10000", "10001", "shape slaves[0].tf_ns"),
-        (
-            "\"cable_ps\":100000000",
-            "\"cable_ps\":100000001",
-            "shape slaves[1].cable_ps",
-        ),
-        ("\"nobody\"", "null", "shape slaves[2].parent"),
-        ("\"parent\":\"A\",", "", "shape slaves[1].port"),
-        (",\"port\":3", "", "shape slaves[1].port"),
-    ];
-    check_edits(&rt, rt.alloc(), edits.as_slice());
-}
-
-#[test]
-fn faults_of_slaves_2(rt: HostRuntime) {
-    let edits = [
-        ("\"port\":3", "\"port\":4", "shape slaves[1].port"),
-        ("\"port\":1", "\"port\":0", "shape slaves[2].port"),
-        (
-            "\"cable_ps\":11",
-            "\"cable_ps\":11,\"rates\":[]",
-            "shape slaves[3]",
-        ),
-    ];
-    check_edits(&rt, rt.alloc(), edits.as_slice());
-}
-
-#[test]
-fn faults_of_clocks_1(rt: HostRuntime) {
-    let edits = [
-        (
-            "18446744073709551615",
-            "18446744073709551616",
-            "shape slaves[0].start",
-        ),
-        ("4294967295", "4294967296", "shape slaves[1].start"),
-        (
-            "\"cable_ps\":11",
-            "\"cable_ps\":11,\"start\":0",
-            "shape slaves[3].start",
-        ),
-        (
-            "\"cable_ps\":11",
-            "\"cable_ps\":11,\"phase_fs\":1",
-            "shape slaves[3].phase_fs",
-        ),
-        (
-            "\"period_fs\":20000000",
-            "\"period_fs\":20000001",
-            "shape slaves[0].period_fs",
-        ),
-        (
-            "\"period_fs\":8",
-            "\"period_fs\":0",
-            "shape slaves[2].period_fs",
-        ),
-        ("\"rates\":[]", "\"rates\":{}", "shape slaves[2].rates"),
-        ("\"rates\":[{", "\"rates\":[0,{", "shape slaves[0].rates[0]"),
-        (
-            "\"tick\":1,",
-            "\"tick\":0,",
-            "shape slaves[0].rates[0].tick",
-        ),
-        (
-            "\"tick\":1000000000000",
-            "\"tick\":1",
-            "shape slaves[0].rates[1].tick",
-        ),
-        (
-            "000,\"period_fs\":20000000}",
-            "000,\"period_fs\":0}",
-            "shape slaves[0].rates[1].period_fs",
-        ),
-        (
-            "\"tick\":1,",
-            "\"tick\":1,\"x\":1,",
-            "shape slaves[0].rates[0]",
-        ),
-    ];
-    check_edits(&rt, rt.alloc(), edits.as_slice());
-}
-
-#[test]
-fn faults_of_clocks_2(rt: HostRuntime) {
-    let edits = [
-        (
-            "\"tick\":1,",
-            "\"tick\":1000000000000,",
-            "shape slaves[0].rates[1].tick",
-        ),
-        ("49999,", "50000,", "shape slaves[0].shift_ns"),
-        (
-            "\"sync1_ns\":1}",
-            "\"sync1_ns\":0}",
-            "shape slaves[0].sync1_ns",
-        ),
-        (
-            "\"sync1_ns\":1}",
-            "\"sync1_ns\":50000}",
-            "shape slaves[0].sync1_ns",
-        ),
-        (
-            "\"period_fs\":8",
-            "\"period_fs\":8,\"shift_ns\":0",
-            "shape slaves[2].shift_ns",
-        ),
-        (
-            "\"period_fs\":8",
-            "\"period_fs\":8,\"sync1_ns\":1",
-            "shape slaves[2].sync1_ns",
-        ),
-    ];
-    check_edits(&rt, rt.alloc(), edits.as_slice());
-}
-
-#[test]
-fn faults_of_losses_and_ids(rt: HostRuntime) {
-    let edits = [
-        (
-            "\"phase\":\"drift\"",
-            "\"phase\":\"Drift\"",
-            "shape losses[0].phase",
-        ),
-        ("\"number\":2", "\"number\":0", "shape losses[0].number"),
-        (
-            "\"number\":2",
-            "\"number\":100001",
-            "shape losses[0].number",
-        ),
-        ("commission", "drift", "shape losses[1].number"),
-        ("\"after\":4", "\"after\":5", "shape losses[0].after"),
-        ("\"after\":4", "\"after\":4,\"x\":0", "shape losses[0]"),
-        ("\"b-_Z09\"", "\"A\"", "twice A"),
-        ("\"C\"", "\"b-_Z09\"", "twice b-_Z09"),
-    ];
-    check_edits(&rt, rt.alloc(), edits.as_slice());
-}
-
-/// Of two faults the first in the order of the checks is told, wherever it stands in the text.
-#[test]
-fn two_edits(rt: HostRuntime) {
-    for (first, second, told) in [
-        (("15,", "16,"), ("\"ppm\":100", "\"ppm\":101"), "shape ppm"),
-        (
-            ("{", "{\"x\":0,"),
-            ("\"cycles\":1", "\"cycles\":0"),
-            "shape cycles",
-        ),
-        (
-            ("{", "{\"x\":0,"),
-            ("\"losses\":[", "\"losses\":0,\"y\":["),
-            "shape losses",
-        ),
-        (("{", "{\"x\":0,"), ("\"A\"", "\"\""), "shape $"),
-        (
-            ("\"after\":4", "\"after\":5"),
-            ("\"A\"", "\"C\""),
-            "shape losses[0].after",
-        ),
-        (
-            ("\"tick\":1,", "\"tick\":0,"),
-            ("\"id\":\"C\"", "\"id\":\"A\""),
-            "shape slaves[0].rates[0].tick",
-        ),
-        (
-            ("{\"id\":\"A\"", "{\"y\":0,\"id\":\"A\""),
-            ("49999", "50000"),
-            "shape slaves[0].shift_ns",
-        ),
-    ] {
-        let once = edited(&rt, rt.alloc(), FILE, first.0, first.1);
-        let file = edited(&rt, rt.alloc(), &once, second.0, second.1);
-        assert_eq!(rt; answer(&rt, rt.alloc(), &file).as_str(), told, "{file}");
+fn edited_files(rt: HostRuntime) {
+    for line in EDITS.lines() {
+        check_line(&rt, rt.alloc(), line);
     }
 }
 

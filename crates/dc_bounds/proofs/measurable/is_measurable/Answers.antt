@@ -2,7 +2,6 @@ use Rattle.std.proofs.Common.{rules, ◌≡◌, ◌<◌, ◌≤◌, length, arit
 use Rattle.std.specs.Prelude.{Some, None}
 use Rattle.std.proofs.lemmas.Bool.Decides.{nat_tests}
 use Rattle.cable_tree.specs.Row.{above}
-use Rattle.dc_bounds.specs.Measurable.{branches}
 use Rattle.dc_bounds.specs.Weight.{flag}
 use Rattle.dc_bounds.proofs.Leading.{leads_nowhere, leads_past_the_root, leads_to_one, leads_to_a_branch, leads_on}
 use Rattle.dc_bounds.proofs.measurable.is_measurable.Goals as goal

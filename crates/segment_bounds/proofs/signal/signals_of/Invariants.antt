@@ -1,6 +1,5 @@
-use Rattle.std.proofs.Common.{◌≡◌, ◌*◌, ◌≤◌, ◌++◌, drop, map, length}
+use Rattle.std.proofs.Common.{◌≡◌, ◌*◌, ◌≤◌, ◌++◌, drop, length}
 use Rattle.std.specs.List.{All}
-use Rattle.segment_file.specs.Seen.{row_seen}
 use Rattle.segment_bounds.specs.IsSignal.{IsSignal}
 use Rattle.segment_bounds.specs.Window.{signals_from}
 use Rattle.segment_bounds.proofs.signal.signals_of.Given as goal

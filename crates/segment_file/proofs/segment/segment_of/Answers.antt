@@ -33,7 +33,8 @@ invariant_of-result c = record {
 
 pub returns-clause-ok : goal.returns-clause-ok
 returns-clause-ok c =
-    let head = head_seen c.args.shape.head in
-    (ap (λ rs. record { head = head; rows = rs; losses = c.args.shape.losses.items }) c.in_ok-rows.ensures,
-    legal_rows (shape_seen c.args.shape) c.requires (map row_seen c.in_ok-rows.rows.items) c.in_ok-rows.ensures
-    (rw c.deref.ensures.value at c.in_ok-tree.ensures.valid) (rw (c.deref-2.ensures.value, c.deref-3.ensures.value) at c.in_ok-checked.ensures.ok))
+    let head = head_seen c.args.shape.head in (
+      ap (λ rs. record { head = head; rows = rs; losses = c.args.shape.losses.items }) c.in_ok-rows.ensures,
+      legal_rows (shape_seen c.args.shape) c.requires (map row_seen c.in_ok-rows.rows.items) c.in_ok-rows.ensures
+          (rw c.deref.ensures.value at c.in_ok-tree.ensures.valid) (rw (c.deref-2.ensures.value, c.deref-3.ensures.value) at c.in_ok-checked.ensures.ok),
+    )

@@ -1,5 +1,3 @@
-use Rattle.std.proofs.Common.{arith}
-use Rattle.std.proofs.lemmas.List.{length-map}
 use Rattle.segment_file.proofs.LegalLemmas.{reference_within}
 use Rattle.segment_file.proofs.segment.Segment.reference.Goals as goal
 

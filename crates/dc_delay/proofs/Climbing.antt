@@ -1,0 +1,101 @@
+-- One step up.
+use Rattle.std.specs.Prelude.{◌≡◌, ℕ, suc, zero, ◌+◌, ◌-◌, ◌<◌, ◌≤◌, Bool, true, false, not, ◌&&◌, Some, None, List}
+use Rattle.std.proofs.Common.{arith, refl, ◌∙◌}
+use Rattle.cable_tree.specs.declared.port.Above.{Above}
+use Rattle.cable_tree.specs.declared.port.Port.{Port}
+use Rattle.cable_tree.specs.Row.{Row, above}
+use Rattle.dc_bounds.specs.Weight.{measuring_parent}
+use Rattle.dc_bounds.specs.Measurable.{branches, leads_from, is_measured_within}
+use Rattle.dc_delay.specs.MeasuredDelay.{passed_from, passed_within, hop_ahead, hop_back, ahead_by, ahead_within, back_by, back_within}
+
+passed_step : (rows : List Row) (measures : ℕ → Bool) (number : ℕ → ℕ) (n k r : ℕ) → k < n
+    → passed_within rows measures number (n - k) r ≡ passed_from measures number (passed_within rows measures number (n - (k + 1))) (above rows r)
+unfolding passed_within
+passed_step rows measures number n k r h = let e : n - k ≡ suc (n - (k + 1)) = omega arith in rw e refl
+
+pub passed_end : (rows : List Row) (measures : ℕ → Bool) (number : ℕ → ℕ) (n k r : ℕ) → n ≤ k → passed_within rows measures number (n - k) r ≡ 0
+unfolding passed_within
+passed_end rows measures number n k r h = let e : n - k ≡ 0 = omega arith in rw e refl
+
+pub passed_root : (rows : List Row) (measures : ℕ → Bool) (number : ℕ → ℕ) (n k r : ℕ) → k < n → above rows r ≡ None → passed_within rows measures number (n - k) r ≡ 0
+passed_root rows measures number n k r h root = passed_step rows measures number n k r h ∙ rw root refl
+
+pub passed_here : (rows : List Row) (measures : ℕ → Bool) (number : ℕ → ℕ) (n k r : ℕ) (a : Above) → k < n → above rows r ≡ Some a → measures a.row ≡ true
+    → passed_within rows measures number (n - k) r ≡ 0
+passed_here rows measures number n k r a h up measured = passed_step rows measures number n k r h ∙ rw (up, measured) refl
+
+pub passed_higher : (rows : List Row) (measures : ℕ → Bool) (number : ℕ → ℕ) (n k r : ℕ) (a : Above) → k < n → above rows r ≡ Some a → measures a.row ≡ false
+    → passed_within rows measures number (n - k) r ≡ number a.row + passed_within rows measures number (n - (k + 1)) a.row
+passed_higher rows measures number n k r a h up not_measured = passed_step rows measures number n k r h ∙ rw (up, not_measured) refl
+
+ahead_step : (rows : List Row) (measures : ℕ → Bool) (laps : ℕ → Port → ℕ) (n k r : ℕ) → k < n
+    → ahead_within rows measures laps (n - k) r ≡ ahead_by rows measures laps r (ahead_within rows measures laps (n - (k + 1))) (measuring_parent rows measures r)
+unfolding ahead_within
+ahead_step rows measures laps n k r h = let e : n - k ≡ suc (n - (k + 1)) = omega arith in rw e refl
+
+pub ahead_end : (rows : List Row) (measures : ℕ → Bool) (laps : ℕ → Port → ℕ) (n k r : ℕ) → n ≤ k → ahead_within rows measures laps (n - k) r ≡ 0
+unfolding ahead_within
+ahead_end rows measures laps n k r h = let e : n - k ≡ 0 = omega arith in rw e refl
+
+pub ahead_top : (rows : List Row) (measures : ℕ → Bool) (laps : ℕ → Port → ℕ) (n k r : ℕ) → k < n → measuring_parent rows measures r ≡ None → ahead_within rows measures laps (n - k) r ≡ 0
+ahead_top rows measures laps n k r h top = ahead_step rows measures laps n k r h ∙ rw top refl
+
+pub ahead_higher : (rows : List Row) (measures : ℕ → Bool) (laps : ℕ → Port → ℕ) (n k r : ℕ) (a : Above) → k < n → measuring_parent rows measures r ≡ Some a
+    → ahead_within rows measures laps (n - k) r ≡ ahead_within rows measures laps (n - (k + 1)) a.row + hop_ahead rows measures laps a r
+ahead_higher rows measures laps n k r a h up = ahead_step rows measures laps n k r h ∙ rw up refl
+
+back_step : (rows : List Row) (measures : ℕ → Bool) (laps : ℕ → Port → ℕ) (n k r : ℕ) → k < n
+    → back_within rows measures laps (n - k) r ≡ back_by rows measures laps r (back_within rows measures laps (n - (k + 1))) (measuring_parent rows measures r)
+unfolding back_within
+back_step rows measures laps n k r h = let e : n - k ≡ suc (n - (k + 1)) = omega arith in rw e refl
+
+pub back_end : (rows : List Row) (measures : ℕ → Bool) (laps : ℕ → Port → ℕ) (n k r : ℕ) → n ≤ k → back_within rows measures laps (n - k) r ≡ 0
+unfolding back_within
+back_end rows measures laps n k r h = let e : n - k ≡ 0 = omega arith in rw e refl
+
+pub back_top : (rows : List Row) (measures : ℕ → Bool) (laps : ℕ → Port → ℕ) (n k r : ℕ) → k < n → measuring_parent rows measures r ≡ None → back_within rows measures laps (n - k) r ≡ 0
+back_top rows measures laps n k r h top = back_step rows measures laps n k r h ∙ rw top refl
+
+pub back_higher : (rows : List Row) (measures : ℕ → Bool) (laps : ℕ → Port → ℕ) (n k r : ℕ) (a : Above) → k < n → measuring_parent rows measures r ≡ Some a
+    → back_within rows measures laps (n - k) r ≡ back_within rows measures laps (n - (k + 1)) a.row + hop_back rows measures laps r
+back_higher rows measures laps n k r a h up = back_step rows measures laps n k r h ∙ rw up refl
+
+measured_step : (rows : List Row) (measures : ℕ → Bool) (n k r : ℕ) → k < n
+    → is_measured_within rows measures (n - k) r ≡ leads_from measures (branches rows) (is_measured_within rows measures (n - (k + 1))) (above rows r)
+unfolding is_measured_within
+measured_step rows measures n k r h = let e : n - k ≡ suc (n - (k + 1)) = omega arith in rw e refl
+
+pub measured_end : (rows : List Row) (measures : ℕ → Bool) (n k r : ℕ) → n ≤ k → is_measured_within rows measures (n - k) r ≡ false
+unfolding is_measured_within
+measured_end rows measures n k r h = let e : n - k ≡ 0 = omega arith in rw e refl
+
+pub measured_root : (rows : List Row) (measures : ℕ → Bool) (n k r : ℕ) → k < n → above rows r ≡ None → is_measured_within rows measures (n - k) r ≡ false
+measured_root rows measures n k r h root = measured_step rows measures n k r h ∙ rw root refl
+
+pub measured_here : (rows : List Row) (measures : ℕ → Bool) (n k r : ℕ) (a : Above) → k < n → above rows r ≡ Some a → measures a.row ≡ true
+    → is_measured_within rows measures (n - k) r ≡ true
+measured_here rows measures n k r a h up measured = measured_step rows measures n k r h ∙ rw (up, measured) refl
+
+pub measured_higher : (rows : List Row) (measures : ℕ → Bool) (n k r : ℕ) (a : Above) → k < n → above rows r ≡ Some a → measures a.row ≡ false → branches rows a.row ≡ false
+    → is_measured_within rows measures (n - k) r ≡ is_measured_within rows measures (n - (k + 1)) a.row
+measured_higher rows measures n k r a h up not_measured one = measured_step rows measures n k r h ∙ rw (up, not_measured, one) refl
+
+-- a slave with several behind it ends the way
+pub measured_branch : (rows : List Row) (measures : ℕ → Bool) (n k r : ℕ) (a : Above) → k < n → above rows r ≡ Some a → measures a.row ≡ false → branches rows a.row ≡ true
+    → is_measured_within rows measures (n - k) r ≡ false
+measured_branch rows measures n k r a h up not_measured several = measured_step rows measures n k r h ∙ rw (up, not_measured, several) refl
+
+ends : (b m : Bool) → m ≡ false → (not b && m) ≡ false
+ends true m e = refl
+ends false m e = e
+
+nowhere : (rows : List Row) (measures : ℕ → Bool) (left r : ℕ) → above rows r ≡ None → is_measured_within rows measures left r ≡ false
+unfolding is_measured_within
+nowhere rows measures zero r astray = refl
+nowhere rows measures (suc left) r astray = rw astray refl
+
+-- and one that hangs nowhere does
+pub measured_astray : (rows : List Row) (measures : ℕ → Bool) (n k r : ℕ) (a : Above) → k < n → above rows r ≡ Some a → measures a.row ≡ false → above rows a.row ≡ None
+    → is_measured_within rows measures (n - k) r ≡ false
+measured_astray rows measures n k r a h up not_measured astray =
+    measured_step rows measures n k r h ∙ rw (up, not_measured) (ends (branches rows a.row) _ (nowhere rows measures (n - (k + 1)) a.row astray))

@@ -1,0 +1,13 @@
+pub mod Climbing
+pub mod Finding
+pub mod Tables
+pub mod Recursions
+pub mod TrueHops
+pub mod HopErrors
+pub mod Alike
+pub mod NearDelays
+pub mod Order
+pub mod Readings
+pub mod AddedUp
+pub mod Listing
+pub mod Gathered

@@ -1,0 +1,97 @@
+ghost use Rattle.std.specs.Prelude.{◌≡◌, ◌<◌, ◌≤◌, ◌^◌, ◌+◌, ◌-◌, ◌/◌, [], length, Err, IfErr, IfSome, OnErr, OnOk, Some};
+ghost use Rattle.std.specs.List.{find};
+ghost use Rattle.dc_bounds.specs.Weight.{flag};
+ghost use Rattle.dc_delay.specs.Latched.{laps, measures};
+ghost use Rattle.dc_delay.specs.MeasuredDelay.{delay_list, delays_from};
+ghost use Rattle.dc_delay.specs.Refusals.{IsRefused};
+ghost use Rattle.dc_delay.specs.ShapeRows.{positions, rows_of};
+ghost use Rattle.dc_delay.specs.Table.{IsTable, table_laps, table_measures, table_rows};
+ghost use Rattle.dc_delay.specs.declared.error.DelayError.{DelayError as Error};
+
+use crate::error::DelayError;
+use crate::kind::Kind;
+use crate::latch::Latch;
+use crate::measurable::first_unmeasurable;
+use crate::slave::Slave;
+use crate::table::table;
+use crate::ways::{Sums, way};
+use arrayvec::ArrayVec;
+use dc_topology::Shape;
+
+/// A delay in ns at each position of a clock, and `None` at every other position.
+pub type DelayList = ArrayVec<Option<u64>, 256>;
+
+/// The delays of the clocks, in ns: how much later than at the reference, which is the first clock in
+/// frame order, the frame came to each of them, by the latched times. A slave measures where it has a
+/// latch, and is a clock where it is timed. The numbers are delays where every clock measures. After a
+/// refusal `out` is empty.
+pub fn delays(
+    shape: &Shape,
+    kinds: &[Kind],
+    latches: &[Option<Latch>],
+    timed: &[bool],
+    out: &mut DelayList,
+) -> Result<(), DelayError>
+    requires kinds { length kinds.now ≡ length shape.now }
+    requires latches { length latches.now ≡ length shape.now }
+    requires timed { length timed.now ≡ length shape.now }
+    ensures ok { OnOk result (out.new.items
+        ≡ delay_list (rows_of shape.now kinds.now) (measures latches.now) (flag timed.now) (laps latches.now) (positions (length shape.now))) }
+    ensures refused { IfErr result (IsRefused (rows_of shape.now kinds.now) (measures latches.now) (flag timed.now) (positions (length shape.now))) }
+    ensures exactly { (e : Error) → IsRefused (rows_of shape.now kinds.now) (measures latches.now) (flag timed.now) (positions (length shape.now)) e
+        → result ≡ Err e }
+    ensures empty { OnErr result (out.new.items ≡ []) }
+{
+    out.clear();
+    let slaves = table(shape, kinds, latches);
+    let Some(reference) = first_timed(timed) else {
+        return Err(DelayError::NoReference);
+    };
+    if let Some(position) = first_unmeasurable(&slaves) {
+        return Err(DelayError::Unmeasurable(position));
+    }
+    put_delays(&slaves, timed, reference, out);
+    Ok(())
+}
+
+// Puts the delays from a reference into an empty list.
+fn put_delays(slaves: &[Slave], timed: &[bool], reference: u16, out: &mut DelayList)
+    requires table { IsTable slaves.now }
+    requires timed { length timed.now ≡ length slaves.now }
+    requires reference { reference < length slaves.now }
+    requires empty { out.old.items ≡ [] }
+    ensures { out.new.items
+        ≡ delays_from (table_rows slaves.now) (table_measures slaves.now) (flag timed.now) (table_laps slaves.now) (Some reference) (positions (length timed.now)) }
+{
+    let to_reference = way(slaves, reference);
+    for (position, is_timed) in timed.iter().enumerate() {
+        out.push(if *is_timed {
+            Some(delay(way(slaves, position as u16), to_reference))
+        } else {
+            None
+        });
+    }
+}
+
+// The position of the first clock.
+fn first_timed(timed: &[bool]) -> Option<u16>
+    requires { length timed.now ≤ 256 }
+    ensures is { result ≡ find (flag timed.now) (positions (length timed.now)) }
+    ensures within { IfSome result (λ r. r < length timed.now) }
+{
+    for (position, is_timed) in timed.iter().enumerate() {
+        if *is_timed {
+            return Some(position as u16);
+        }
+    }
+    None
+}
+
+// Half of the way to a slave less that to the reference, rounded down, and 0 where it is negative.
+fn delay(way: Sums, to_reference: Sums) -> u64
+    requires way { (way.ahead ≤ 2 ^ 42) × (way.back ≤ 2 ^ 42) }
+    requires reference { (to_reference.ahead ≤ 2 ^ 42) × (to_reference.back ≤ 2 ^ 42) }
+    ensures { result ≡ ((way.ahead + to_reference.back) - (way.back + to_reference.ahead)) / 2 }
+{
+    (way.ahead + to_reference.back).saturating_sub(way.back + to_reference.ahead) / 2
+}
