@@ -99,22 +99,13 @@ fn bad_shapes_are_told_by_their_path(rt: HostRuntime) -> Result<(), Fail> {
         (&[(r#""ppm":0"#, r#""ppm":101"#)], "shape ppm"),
         (&[(r#""speed":4096,"#, "")], "shape speed"),
         (&[(r#""version":1"#, r#""version":1,"x":1"#)], "shape $"),
-        (
-            &[(r#""port":1"#, r#""port":4"#)],
-            "shape slaves[1].port",
-        ),
+        (&[(r#""port":1"#, r#""port":4"#)], "shape slaves[1].port"),
         (
             &[(r#""id":"B""#, r#""id":"BBBBBBBBBBBBBBBBB""#)],
             "shape slaves[1].id",
         ),
-        (
-            &[(r#""slaves""#, LOST_TWICE)],
-            "shape losses[1].number",
-        ),
-        (
-            &[(r#""slaves""#, LOST_FAR)],
-            "shape losses[0].after",
-        ),
+        (&[(r#""slaves""#, LOST_TWICE)], "shape losses[1].number"),
+        (&[(r#""slaves""#, LOST_FAR)], "shape losses[0].after"),
         (&[(r#""id":"B""#, r#""id":"A""#)], "twice A"),
     ];
     for (edits, reason) in cases {
@@ -130,11 +121,11 @@ fn what_is_no_tree_of_clocks_is_refused(rt: HostRuntime) -> Result<(), Fail> {
     let alloc = rt.alloc();
     assert_refused(&rt, alloc, &line_of(alloc, 0)?, &[], "tree empty");
     let cases: [(Edits<'_>, &str); 7] = [
-        (&[(r#""parent":"A""#, r#""parent":"X""#)], "tree no parent 1"),
         (
-            &[(r#""parent":"A","port":1,"#, "")],
-            "tree two roots 1",
+            &[(r#""parent":"A""#, r#""parent":"X""#)],
+            "tree no parent 1",
         ),
+        (&[(r#""parent":"A","port":1,"#, "")], "tree two roots 1"),
         (
             &[(
                 r#""cable_ps":20000"#,

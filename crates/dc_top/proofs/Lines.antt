@@ -1,17 +1,15 @@
 -- The slaves of a line: where they hang, and the ranges of their numbers.
 use Rattle.std.proofs.Common.{◌≡◌, ◌∙◌, sym, ap, refl, subst, arith, ℕ, ◌+◌, ◌<◌, ◌≤◌, ◌&&◌, not, nat_le, Bool, true, false, cond, List, [], ◌∷◌, length, map, drop, get_or, Option, Some, None, option_map}
-use Rattle.std.specs.Prelude.{slice_index_or}
 use Rattle.std.proofs.lemmas.Bool.Decides.{nat_tests}
 use Rattle.std.proofs.lemmas.List.{drop_more, drop_all, length-map, get_or-map}
 use Rattle.std.proofs.lemmas.List.Elements.{All-same, All-get_or, All-cons, All-head, All-tail, All-nil}
 use Rattle.std.specs.List.{All, find, list_all}
-use Rattle.cable_tree.specs.Row.{Row, IsRow}
+use Rattle.cable_tree.specs.Row.{IsRow}
 use Rattle.esc_regs.specs.declared.clock_kind.ClockKind.{ClockKind}
 use Rattle.esc_regs.specs.declared.clock_kind.ClockKind.TheVariants as kind
-use Rattle.segment_shape.specs.Slaves.{measures}
 use Rattle.segment_file.specs.Faults.{Fault, is_off, fault_of, first_of, clock_fault}
 use Rattle.segment_file.specs.Legal.{IsClock, IsLegal}
-use Rattle.segment_file.specs.Segment.{RowValue, SegmentValue, tree_row, tree_rows}
+use Rattle.segment_file.specs.Segment.{RowValue, SegmentValue, is_measuring, tree_row, tree_rows}
 use Rattle.segment_file.specs.Seen.{row_seen}
 use Rattle.segment_file.specs.declared.slave_row.SlaveRow.{SlaveRow}
 use Rattle.wire_sim.specs.LineSlave.{IsInRange}
@@ -73,11 +71,11 @@ unfound : {A : Type 0} (b : Bool) (x : A) (rest : Option A) → cond b (Some x) 
 unfound true x rest e = absurd cc
 unfound false x rest e = (refl, e)
 
-measuring : (k : ClockKind) → is_c64 k ≡ true → measures k ≡ true
-measuring kind.None e = absurd cc
-measuring kind.C32 e = refl
-measuring kind.C64 e = refl
-measuring kind.R32 e = refl
+measuring : (r : RowValue) (k : ClockKind) → r.kind ≡ k → is_c64 k ≡ true → is_measuring r ≡ true
+measuring r kind.None is e = absurd cc
+measuring r kind.C32 is e = absurd cc
+measuring r kind.C64 is e = rw is refl
+measuring r kind.R32 is e = absurd cc
 
 -- of a test that fails for a slave that measures, the first part holds
 first_holds : (m a b c : Bool) → m ≡ true → (m && not (a && b && c)) ≡ false → a ≡ true
@@ -90,7 +88,7 @@ in_range : (ppm cycle : ℕ) (r : RowValue) → IsRow (tree_row r) → IsClock c
 in_range ppm cycle r row clock off steady =
     let most = both _ _ steady in
     let cable : nat_le r.cable_ps 5000000 ≡ true = most.1 in
-    let m : measures r.kind ≡ true = measuring r.kind (both _ _ most.0).0 in
+    let m : is_measuring r ≡ true = measuring r r.kind refl (both _ _ most.0).0 in
     let phase : nat_le r.phase_fs r.period_fs ≡ true = first_holds _ _ _ _ m off in
     record {
       tp_some = row.tp_some;
@@ -110,8 +108,8 @@ all_in_range ppm cycle (r ∷ rs) trees clocks off steady =
     let on = unfound (is_off ppm r) r (find (is_off ppm) rs) off in
     let s = both (is_steady r) (list_all is_steady rs) steady in
     All-cons (λ r. IsInRange (slave_of r)) r rs
-        (in_range ppm cycle r (All-head IsRow (tree_row r) (tree_rows rs) trees) (All-head (IsClock cycle) r rs clocks) on.0 s.0)
-        (all_in_range ppm cycle rs (All-tail IsRow (tree_row r) (tree_rows rs) trees) (All-tail (IsClock cycle) r rs clocks) on.1 s.1)
+    (in_range ppm cycle r (All-head IsRow (tree_row r) (tree_rows rs) trees) (All-head (IsClock cycle) r rs clocks) on.0 s.0)
+    (all_in_range ppm cycle rs (All-tail IsRow (tree_row r) (tree_rows rs) trees) (All-tail (IsClock cycle) r rs clocks) on.1 s.1)
 
 -- so are those of all slaves of a line
 pub line_in_range : (s : SegmentValue) (rows : List SlaveRow) → map row_seen rows ≡ s.rows → IsLegal s → is_line s ≡ true → All (λ r. IsInRange (slave_of (row_seen r))) rows

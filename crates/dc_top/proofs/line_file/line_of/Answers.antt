@@ -1,4 +1,4 @@
-use Rattle.std.proofs.Common.{◌≡◌, ◌∙◌, sym, ap, arith, length}
+use Rattle.std.proofs.Common.{◌∙◌, sym, ap, arith, length}
 use Rattle.std.proofs.lemmas.List.{length-map}
 use Rattle.dc_top.proofs.Lines.{line_in_range, few_in_line}
 use Rattle.dc_top.proofs.line_file.line_of.Goals as goal
