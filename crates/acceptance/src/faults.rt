@@ -1,6 +1,6 @@
 use crate::files::TWO_SLAVES;
 use dc_base::{MemSink, MemSource};
-use dc_top::{Outcome, dc_main};
+use dc_top::{KeyPath, Outcome, SegFault, dc_main};
 use std::test::Fail;
 
 /// One byte more than an input may have.
@@ -11,6 +11,8 @@ fn faults_of_the_two_ends_are_told(rt: HostRuntime) -> Result<(), Fail> {
     let alloc = rt.alloc();
     let words = vec![in alloc; "delays".to_string(alloc)?]?;
     let file = TWO_SLAVES.as_bytes();
+    let mut root = KeyPath::new();
+    root.push_str("$");
     // An input, the reads and the writes that fail, the most bytes of a write, the outcome with its status and its line, and what the
     // sink holds.
     for (input, reads, writes, outcome, status, line, written) in [
@@ -21,6 +23,15 @@ fn faults_of_the_two_ends_are_told(rt: HostRuntime) -> Result<(), Fail> {
             Outcome::BadText,
             3,
             "dc: not JSON",
+            "",
+        ),
+        (
+            b"[]".to_vec(alloc)?,
+            0,
+            0,
+            Outcome::BadSegment(SegFault::Shape(root)),
+            4,
+            "dc: segment: shape $",
             "",
         ),
         (

@@ -1,5 +1,8 @@
 // Segment files as text.
 
+use std::alloc::{AllocError, Global};
+use std::fmt::Write;
+
 /// One clock.
 pub(crate) const ONE_SLAVE: &str = "\
     {\"version\":1,\"ppm\":0,\"frame_ns\":1000000,\"speed\":4096,\"loss_run\":1,\
@@ -32,7 +35,7 @@ pub(crate) const WRAPPING_LATCH: &str = "\
     \"tf_ns\":300,\"cable_ps\":53000,\"parent\":\"A\",\"port\":1,\"start\":0,\"phase_fs\":10000000,\
     \"period_fs\":10000000}]}";
 
-/// A tree of today's numbers that is no line: B hangs on port 3 of A.
+/// The same two clocks, but B hangs on port 3 of A.
 pub(crate) const OTHER_PORT: &str = "\
     {\"version\":1,\"ppm\":0,\"frame_ns\":1000000,\"speed\":4096,\"loss_run\":1,\
     \"epoch_ns\":800000000000000000,\"cycle_ns\":1000000,\"cycles\":3,\"slaves\":[{\"id\":\"A\",\
@@ -40,10 +43,41 @@ pub(crate) const OTHER_PORT: &str = "\
     \"period_fs\":10000000},{\"id\":\"B\",\"clock\":\"c64\",\"tp_ns\":310,\"tf_ns\":300,\"cable_ps\":50000,\
     \"parent\":\"A\",\"port\":3,\"start\":0,\"phase_fs\":10000000,\"period_fs\":10000000}]}";
 
-/// A line with an optional key.
+/// Two clocks in a line, with an optional key.
 pub(crate) const SHIFTED: &str = "\
     {\"version\":1,\"ppm\":0,\"frame_ns\":1000000,\"speed\":4096,\"loss_run\":1,\
     \"epoch_ns\":800000000000000000,\"cycle_ns\":1000000,\"cycles\":3,\"slaves\":[{\"id\":\"A\",\
     \"clock\":\"c64\",\"tp_ns\":310,\"tf_ns\":300,\"cable_ps\":20000,\"start\":0,\"phase_fs\":10000000,\
     \"period_fs\":10000000},{\"id\":\"B\",\"clock\":\"c64\",\"tp_ns\":310,\"tf_ns\":300,\"cable_ps\":50000,\
     \"parent\":\"A\",\"port\":1,\"start\":0,\"phase_fs\":10000000,\"period_fs\":10000000,\"shift_ns\":0}]}";
+
+/// A line of so many clocks with the numbers of those above.
+pub(crate) fn line_of(alloc: Global, slaves: usize) -> Result<String, AllocError> {
+    let mut file = String::from_str(alloc, HEAD)?;
+    for i in 0..slaves {
+        if i == 0 {
+            push_clock(&mut file, i, 20_000)?;
+        } else {
+            file.push(',')?;
+            push_clock(&mut file, i, 50_000)?;
+            write!(file, r#","parent":"S{}","port":1"#, i - 1)?;
+        }
+        file.push('}')?;
+    }
+    file.push_str("]}")?;
+    Ok(file)
+}
+
+const HEAD: &str = concat!(
+    r#"{"version":1,"ppm":0,"frame_ns":1000000,"speed":4096,"loss_run":1,"#,
+    r#""epoch_ns":800000000000000000,"cycle_ns":1000000,"cycles":3,"slaves":["#,
+);
+
+// The start of a row.
+fn push_clock(file: &mut String, number: usize, cable_ps: u32) -> Result<(), AllocError> {
+    write!(
+        file,
+        r#"{{"id":"S{number}","clock":"c64","tp_ns":310,"tf_ns":300,"cable_ps":{cable_ps}"#
+    )?;
+    file.push_str(r#","start":0,"phase_fs":10000000,"period_fs":10000000"#)
+}

@@ -1,6 +1,5 @@
-pub mod Members
-pub mod Rows
 pub mod Tables
 pub mod Requests
 pub mod Numerals
 pub mod Sorting
+pub mod Lines

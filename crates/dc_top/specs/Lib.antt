@@ -1,8 +1,9 @@
-pub mod Json
 pub mod LineFile
 pub mod Seen
 pub mod Table
 pub mod LineDelays
+pub mod CheckText
+pub mod SegFaults
 pub mod Outcomes
 pub mod Answers
 pub mod Words

@@ -3,7 +3,7 @@ use Rattle.std.specs.Prelude.{◌≡◌, ℕ, zero, suc, ◌+◌, ◌-◌, ◌*�
 use Rattle.std.specs.Fmt.{digits, padded_integral, format_spec}
 use Rattle.wire_sim.specs.LineSlave.{SlaveValue}
 use Rattle.wire_sim.specs.PathSums.{arrive_of, round_trip_of}
-use Rattle.dc_top.specs.LineFile.{RowValue, LineValue}
+use Rattle.dc_top.specs.LineFile.{LineRow, LineValue}
 
 abbrev pub slaves_of : LineValue → List SlaveValue
 slaves_of f = map (λ r. r.slave) f.rows
@@ -39,7 +39,7 @@ row_text position id delay wire bound =
     ++ (decimal delay ++ (codes " " ++ (decimal wire ++ (codes " " ++ (decimal bound ++ 10 ∷ []))))))))))))
 
 -- the lines of the slaves from a position on
-unfoldable pub rows_text : ℕ → List SlaveValue → ℕ → List RowValue → List ℕ → List ℕ
+unfoldable pub rows_text : ℕ → List SlaveValue → ℕ → List LineRow → List ℕ → List ℕ
 rows_text ppm slaves position (r ∷ rs) (d ∷ ds) =
     row_text position r.id d (wire_of slaves position) (bound_of ppm slaves position) ++ rows_text ppm slaves (position + 1) rs ds
 rows_text ppm slaves position _ _ = []

@@ -9,13 +9,13 @@ use ecat_frame::Command;
 use wire_sim::{LineSlave, Wire};
 
 /// Every frame is sent one period (ns) after the one before it.
-const PERIOD_NS: u64 = 1_000_000;
+pub(crate) const PERIOD_NS: u64 = 1_000_000;
 
 /// The station address of the first slave; the others follow.
 const FIRST_STATION: u16 = 0x1001;
 
 /// Where the speed counters start.
-const SPEED: u16 = 4096;
+pub(crate) const SPEED: u16 = 4096;
 
 // Registers (ESC data sheet, section II).
 const CONTROLLER: u16 = 0x0000;

@@ -1,29 +1,27 @@
-// The segment files that the line of today can run.
-ghost use Rattle.std.specs.Prelude.{◌≡◌, ◌≤◌, length, map, option_map, option_and_then, codes, IsTrue, IfOk, IfSome, []};
-ghost use Rattle.serde_json.specs.Find.{get, as_array};
-ghost use Rattle.serde_json.specs.View.{view, items_view};
-ghost use Rattle.dc_top.specs.LineFile.{id_in, is_id, is_id_byte, slave_in, is_placed, is_fresh, row_in, rows_in, is_plain, is_few, line_in};
-ghost use Rattle.dc_top.specs.Seen.{row_seen, line_seen};
-ghost use Rattle.std.specs.List.{list_all};
+// The segments that the wire of today can run.
+ghost use Rattle.std.specs.Prelude.{◌≡◌, ◌≤◌, length, map, option_map, IfOk, IfSome};
+ghost use Rattle.std.specs.List.{All, list_all};
+ghost use Rattle.segment_file.specs.Seen.{row_seen};
+ghost use Rattle.wire_sim.specs.LineSlave.{IsInRange};
+ghost use Rattle.dc_top.specs.LineFile.{is_c64, is_p1, is_steady, is_behind, are_behind, is_line, slave_of, line_row, line_of};
+ghost use Rattle.dc_top.specs.Seen.{line_row_seen, line_seen};
 
-use crate::json::{has_members, is_number, is_text, number_in, text_in};
-use arrayvec::ArrayString;
+use crate::commission::{PERIOD_NS, SPEED};
+use cable_tree::{Above, Port};
 use dc_base::NoMemory;
-use serde_json::Value;
+use esc_regs::ClockKind;
+use segment_file::{Id, Segment, SlaveRow};
 use std::alloc::Global;
 use wire_sim::LineSlave;
 
-/// The id of a slave, 1 to 16 bytes.
-pub type Id = ArrayString<16>;
-
-/// A slave row of a file.
+/// A slave of a line.
 #[derive(Clone, Copy)]
 pub struct Row {
     pub id: Id,
     pub slave: LineSlave,
 }
 
-/// A file that describes a line.
+/// A line of slaves.
 #[derive(Drop)]
 pub struct LineFile {
     pub ppm: u64,
@@ -49,175 +47,119 @@ impl LineFile {
     }
 }
 
-fn is_id_byte(byte: u8) -> bool
-    ensures { result ≡ is_id_byte byte }
+fn is_c64(kind: ClockKind) -> bool
+    ensures { result ≡ is_c64 kind }
 {
-    byte.is_ascii_alphanumeric() || byte == b'_' || byte == b'-'
-}
-
-fn are_id_bytes(bytes: &[u8]) -> bool
-    ensures { result ≡ list_all is_id_byte bytes.now }
-{
-    bytes.iter().all(|byte| is_id_byte(*byte))
-}
-
-fn is_id(text: &str) -> bool
-    ensures { result ≡ is_id text.now }
-{
-    1 <= text.len() && text.len() <= 16 && are_id_bytes(text.as_bytes())
-}
-
-fn id_in(value: &Value) -> Option<Id>
-    ensures { option_map (λ id. id.bytes) result ≡ id_in (view value.now) }
-{
-    let text = text_in(value, "id")?;
-    if !is_id(text) {
-        return None;
-    }
-    let mut id = Id::new();
-    id.push_str(text);
-    Some(id)
-}
-
-// The clock and the delays of a row.
-#[tactic(auto, unfolding(crate::specs::LineFile::slave_in))]
-fn slave_in(value: &Value, ppm: u64) -> Option<LineSlave>
-    requires { ppm ≤ 100 }
-    ensures { result ≡ slave_in ppm (view value.now) }
-{
-    let tp_ns = number_in(value, "tp_ns", 1, 10_000)?;
-    let tf_ns = number_in(value, "tf_ns", 1, 10_000)?;
-    let cable_ps = number_in(value, "cable_ps", 0, 5_000_000)?;
-    let start = number_in(value, "start", 0, u64::MAX)?;
-    let period_fs = number_in(
-        value,
-        "period_fs",
-        10_000_000 - 10 * ppm,
-        10_000_000 + 10 * ppm,
-    )?;
-    let phase_fs = number_in(value, "phase_fs", 1, period_fs)?;
-    Some(LineSlave::new(
-        tp_ns as u16,
-        tf_ns as u16,
-        cable_ps as u32,
-        start,
-        phase_fs,
-        period_fs,
-    ))
-}
-
-fn is_placed(value: &Value, above: Option<&Row>) -> bool
-    ensures { result ≡ is_placed (option_map (λ r. row_seen r.now) above.entry) (view value.now) }
-{
-    match above {
-        None => has_members(value, 8),
-        Some(above) => {
-            has_members(value, 10)
-                && is_text(value, "parent", above.id.as_str())
-                && is_number(value, "port", 1)
-        }
+    match kind {
+        ClockKind::C64 => true,
+        ClockKind::None | ClockKind::C32 | ClockKind::R32 => false,
     }
 }
 
-fn is_fresh(id: &Id, rows: &[Row]) -> bool
-    ensures { result ≡ is_fresh id.now.bytes (map row_seen rows.now) }
+fn is_p1(port: Port) -> bool
+    ensures { result ≡ is_p1 port }
+{
+    match port {
+        Port::P1 => true,
+        Port::P2 | Port::P3 => false,
+    }
+}
+
+fn is_steady(row: &SlaveRow) -> bool
+    ensures { result ≡ is_steady (row_seen row.now) }
+{
+    is_c64(row.kind) && row.rates.is_empty() && row.cable_ps <= 5_000_000
+}
+
+fn are_steady(rows: &[SlaveRow]) -> bool
+    ensures { result ≡ list_all is_steady (map row_seen rows.now) }
 {
     for row in rows {
-        if row.id.as_str() == id.as_str() {
+        if !is_steady(row) {
             return false;
         }
     }
     true
 }
 
-// The row behind these.
-#[tactic(auto, unfolding(crate::specs::LineFile::row_in))]
-fn row_in(value: &Value, ppm: u64, rows: &[Row]) -> Option<Row>
-    requires { ppm ≤ 100 }
-    ensures { option_map row_seen result ≡ row_in ppm (map row_seen rows.now) (view value.now) }
+fn is_behind(position: usize, above: Option<Above>) -> bool
+    ensures { result ≡ is_behind position above }
 {
-    let id = id_in(value)?;
-    let slave = slave_in(value, ppm)?;
-    if is_text(value, "clock", "c64") && is_placed(value, rows.last()) && is_fresh(&id, rows) {
-        Some(Row { id, slave })
-    } else {
-        None
+    match above {
+        None => position == 0,
+        Some(above) => usize::from(above.row) + 1 == position && is_p1(above.port),
     }
 }
 
-// All rows, where each is in its place.
-fn rows_in(alloc: Global, values: &[Value], ppm: u64) -> Result<Option<Vec<Row>>, NoMemory>
-    requires { ppm ≤ 100 }
-    ensures rows { IfOk result (λ o. option_map (λ v. map row_seen v.items) o ≡ rows_in ppm [] (items_view values.now)) }
-    ensures each { IfOk result (λ o. IfSome o (λ v. length v.items ≡ length values.now)) }
+// Whether each slave hangs on the one before it.
+fn are_behind(rows: &[SlaveRow]) -> bool
+    ensures { result ≡ are_behind 0 (map row_seen rows.now) }
 {
-    let mut rows = Vec::new(alloc);
-    for value in values {
-        let Some(row) = row_in(value, ppm, &rows) else {
-            return Ok(None);
-        };
-        if rows.push(row).is_err() {
+    for position in 0..rows.len() {
+        if !is_behind(position, rows[position].above) {
+            return false;
+        }
+    }
+    true
+}
+
+#[tactic(auto, unfolding(crate::specs::LineFile::is_line))]
+fn is_line(segment: &Segment) -> bool
+    ensures { result ≡ is_line segment.now }
+{
+    let rows = segment.rows();
+    u64::from(segment.frame_ns()) == PERIOD_NS
+        && segment.speed() == SPEED
+        && segment.losses().is_empty()
+        && rows.len() <= 8
+        && are_steady(rows)
+        && are_behind(rows)
+}
+
+fn line_row(row: &SlaveRow) -> Row
+    requires { IsInRange (slave_of (row_seen row.now)) }
+    ensures { line_row_seen result ≡ line_row (row_seen row.now) }
+{
+    Row {
+        id: row.id,
+        slave: LineSlave::new(
+            row.tp_ns,
+            row.tf_ns,
+            row.cable_ps,
+            row.start,
+            row.phase_fs,
+            row.period_fs,
+        ),
+    }
+}
+
+fn line_rows(alloc: Global, rows: &[SlaveRow]) -> Result<Vec<Row>, NoMemory>
+    requires { All (λ r. IsInRange (slave_of (row_seen r))) rows.now }
+    ensures { IfOk result (λ v. map line_row_seen v.items ≡ map line_row (map row_seen rows.now)) }
+{
+    let mut line = Vec::new(alloc);
+    for row in rows {
+        if line.push(line_row(row)).is_err() {
             return Err(NoMemory);
         }
     }
-    Ok(Some(rows))
+    Ok(line)
 }
 
-#[tactic(auto, unfolding(crate::specs::LineFile::is_plain))]
-fn is_plain(value: &Value) -> bool
-    ensures { result ≡ is_plain (view value.now) }
-{
-    has_members(value, 9)
-        && is_number(value, "version", 1)
-        && is_number(value, "frame_ns", 1_000_000)
-        && is_number(value, "speed", 4096)
-        && is_number(value, "loss_run", 1)
-        && is_number(value, "cycle_ns", 1_000_000)
-        && is_number(value, "cycles", 3)
-}
-
-fn is_few(values: &[Value]) -> bool
-    ensures is { result ≡ is_few (items_view values.now) }
-    ensures few { IsTrue result → length values.now ≤ 8 }
-{
-    1 <= values.len() && values.len() <= 8
-}
-
-fn slaves_in(value: &Value) -> Option<&Vec<Value>>
-    ensures { option_map (λ v. items_view v.now.items) result ≡ option_and_then as_array (get (codes "slaves") (view value.now)) }
-{
-    value.get("slaves")?.as_array()
-}
-
-/// The line that a file describes, where it is one.
-#[tactic(auto, unfolding(crate::specs::LineFile::line_in))]
-pub(crate) fn line_in(alloc: Global, value: &Value) -> Result<Option<LineFile>, NoMemory>
-    ensures line { IfOk result (λ o. option_map line_seen o ≡ line_in (view value.now)) }
+/// The line that a segment is, where it is one.
+#[tactic(auto, unfolding(crate::specs::LineFile::line_of))]
+pub(crate) fn line_of(alloc: Global, segment: &Segment) -> Result<Option<LineFile>, NoMemory>
+    ensures line { IfOk result (λ o. option_map line_seen o ≡ line_of segment.now) }
     ensures ppm { IfOk result (λ o. IfSome o (λ f. f.ppm ≤ 100)) }
     ensures few { IfOk result (λ o. IfSome o (λ f. length f.rows.items ≤ 8)) }
 {
-    let Some(ppm) = number_in(value, "ppm", 0, 100) else {
-        return Ok(None);
-    };
-    let Some(epoch_ns) = number_in(value, "epoch_ns", 0, 4_000_000_000_000_000_000) else {
-        return Ok(None);
-    };
-    let Some(values) = slaves_in(value) else {
-        return Ok(None);
-    };
-    if !is_plain(value) {
+    if !is_line(segment) {
         return Ok(None);
     }
-    if !is_few(values) {
-        return Ok(None);
-    }
-    match rows_in(alloc, values, ppm) {
-        Ok(Some(rows)) => Ok(Some(LineFile {
-            ppm,
-            epoch_ns,
-            rows,
-        })),
-        Ok(None) => Ok(None),
-        Err(NoMemory) => Err(NoMemory),
-    }
+    let rows = line_rows(alloc, segment.rows())?;
+    Ok(Some(LineFile {
+        ppm: u64::from(segment.ppm()),
+        epoch_ns: segment.epoch_ns(),
+        rows,
+    }))
 }

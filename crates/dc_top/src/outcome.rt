@@ -1,5 +1,6 @@
 ghost use Rattle.std.specs.Prelude.{◌≡◌};
 
+use crate::SegFault;
 use dc_show::FrameFault;
 use std::fmt;
 
@@ -12,6 +13,8 @@ pub enum Outcome {
     Usage,
     /// The input is not JSON.
     BadText,
+    /// The input is JSON, but no legal segment file, for this reason.
+    BadSegment(SegFault),
     /// This line of the input of `show`, counted from 1, is no frame.
     BadFrame(u32, FrameFault),
     /// The source failed.
@@ -22,7 +25,7 @@ pub enum Outcome {
     NoMemory,
     /// The input has more than 16,777,216 bytes.
     TooLong,
-    /// The command, or the file, is not served yet.
+    /// The command is not built yet, or the wire of today cannot run the file.
     NotYet,
 }
 
@@ -37,6 +40,7 @@ impl Outcome {
             Outcome::Done => 0,
             Outcome::Usage => 2,
             Outcome::BadText => 3,
+            Outcome::BadSegment(..) => 4,
             Outcome::BadFrame(..) => 5,
             Outcome::ReadFault => 7,
             Outcome::WriteFault => 8,
@@ -59,6 +63,7 @@ impl fmt::Display for Outcome {
             Outcome::Done => Ok(()),
             Outcome::Usage => write!(f, "dc: usage"),
             Outcome::BadText => write!(f, "dc: not JSON"),
+            Outcome::BadSegment(fault) => write!(f, "dc: segment: {fault}"),
             Outcome::BadFrame(line, fault) => write!(f, "dc: frame: line {line} {fault}"),
             Outcome::ReadFault => write!(f, "dc: read fault"),
             Outcome::WriteFault => write!(f, "dc: write fault"),

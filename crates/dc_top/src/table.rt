@@ -1,9 +1,10 @@
 // The delay table.
 ghost use Rattle.std.specs.Prelude.{◌≡◌, ◌≤◌, ◌<◌, ◌++◌, length, drop, map, string_bytes, OnOk, IfOk};
 ghost use Rattle.dc_top.specs.Table.{slaves_of, wire_of, gap_of, bound_of, kind_of, row_text, rows_text, head_text, frames_text, table_text};
-ghost use Rattle.dc_top.specs.Seen.{row_seen, line_seen};
+ghost use Rattle.dc_top.specs.Seen.{line_row_seen, line_seen};
 
-use crate::line_file::{Id, LineFile, Row};
+use crate::line_file::{LineFile, Row};
+use segment_file::Id;
 use std::alloc::{AllocError, Global};
 use std::fmt::Write;
 use wire_sim::{LineSlave, arrive, round_trip};
@@ -81,7 +82,7 @@ fn push_rows(
     requires slaves { length slaves.now ≡ length rows.now }
     requires delays { length delays.now ≡ length rows.now }
     ensures { OnOk result (string_bytes text.new ≡ string_bytes text.old
-        ++ rows_text ppm slaves.now 0 (map row_seen rows.now) delays.now) }
+        ++ rows_text ppm slaves.now 0 (map line_row_seen rows.now) delays.now) }
 {
     for position in 0..rows.len() {
         let wire = wire(slaves, position);

@@ -2,32 +2,33 @@
 ghost use Rattle.std.specs.Prelude.{◌≡◌, ◌≢◌, ◌<◌, ◌≤◌, ◌↔◌, map, length, string_bytes, IsTrue, IfOk};
 ghost use Rattle.dc_base.specs.Causes.{Rose};
 ghost use Rattle.dc_top.specs.declared.outcome.Outcome.TheVariants.{ReadFault, WriteFault, TooLong};
-ghost use Rattle.dc_top.specs.Answers.{HasInput, ServedDelays, ServedShow, AnsweredDelays, AnsweredShow, Answered, input_limit};
+ghost use Rattle.dc_top.specs.Answers.{HasInput, ServedCheck, ServedDelays, ServedShow, AnsweredCheck, AnsweredDelays, AnsweredShow, Answered, input_limit};
 ghost use Rattle.dc_base.specs.Told.{Gave};
 ghost use Rattle.dc_top.specs.Seen.{line_seen};
 ghost use Rattle.dc_top.specs.Table.{IsTableOf};
 ghost use Rattle.dc_top.specs.Words.{task_of};
 
 use crate::Outcome;
+use crate::check::check_line;
 use crate::commission::commission;
-use crate::line_file::{LineFile, line_in};
+use crate::line_file::{LineFile, line_of};
+use crate::segment_input::{Refusal, segment_in};
 use crate::table::table;
 use crate::words::{Task, task_of};
 use dc_base::{NoMemory, ReadAllError, Sink, Source, read_all, write_whole};
 use dc_show::ShowError;
-use serde_json::Value;
 use std::alloc::Global;
 use wire_sim::Wire;
 
 /// The most bytes of an input.
 const INPUT_LIMIT: usize = 16_777_216;
 
-/// Runs the command of the words: `delays` reads a segment file from the source and writes its delay table to the sink; `show` reads
-/// lines of hexadecimal digits, a frame each, and writes them in words.
+/// Runs the command of the words: `check` reads a segment file from the source and writes its numbers to the sink; `delays` reads one and
+/// writes its delay table; `show` reads lines of hexadecimal digits, a frame each, and writes them in words.
 ///
 /// Words that are no command are answered by `Usage`, and the commands that are not built yet by `NotYet`; then nothing is read. The
-/// source is read to its end before anything is judged, and nothing is written before all is known. A file that is JSON but describes no
-/// line is answered by `NotYet` too.
+/// source is read to its end before anything is judged, and nothing is written before all is known. A legal file that is no line is
+/// answered to `delays` by `NotYet` too.
 pub fn dc_main<I: Source, O: Sink>(
     alloc: Global,
     words: &[String],
@@ -43,9 +44,25 @@ pub fn dc_main<I: Source, O: Sink>(
 {
     match task_of(words) {
         None => Outcome::Usage,
+        Some(Task::Check) => check(alloc, input, output),
         Some(Task::Delays) => delays(alloc, input, output),
         Some(Task::Show) => show(alloc, input, output),
         Some(_) => Outcome::NotYet,
+    }
+}
+
+// The command `check`.
+fn check<I: Source, O: Sink>(alloc: Global, input: &mut I, output: &mut O) -> Outcome
+    ensures answered { AnsweredCheck result (I.left input.old) (I.left input.new) (O.taken output.old) (O.taken output.new) }
+    ensures too_long { Gave (I.left input.old) (I.left input.new) (λ bytes. (result ≡ TooLong) ↔ (input_limit < length bytes)) }
+    ensures read_fault { result ≡ ReadFault → Rose (I.faults input.old) (I.faults input.new) }
+    ensures write_fault { result ≡ WriteFault → Rose (O.faults output.old) (O.faults output.new) }
+{
+    match read_all(alloc, input, INPUT_LIMIT) {
+        Ok(bytes) => serve_check(alloc, &bytes, output),
+        Err(ReadAllError::ReadFault) => Outcome::ReadFault,
+        Err(ReadAllError::TooLong) => Outcome::TooLong,
+        Err(ReadAllError::NoMemory) => Outcome::NoMemory,
     }
 }
 
@@ -98,18 +115,40 @@ fn serve_show<O: Sink>(alloc: Global, bytes: &[u8], output: &mut O) -> Outcome
     }
 }
 
+// The answer of `check` to a whole input.
+fn serve_check<O: Sink>(alloc: Global, bytes: &[u8], output: &mut O) -> Outcome
+    ensures served { ServedCheck result bytes.now (O.taken output.old) (O.taken output.new) }
+    ensures fault { result ≡ WriteFault → Rose (O.faults output.old) (O.faults output.new) }
+    ensures whole { result ≢ TooLong }
+{
+    let segment = match segment_in(alloc, bytes) {
+        Ok(segment) => segment,
+        Err(Refusal::BadText) => return Outcome::BadText,
+        Err(Refusal::BadSegment(fault)) => return Outcome::BadSegment(fault),
+        Err(Refusal::NoMemory) => return Outcome::NoMemory,
+    };
+    let Ok(line) = check_line(alloc, &segment) else {
+        return Outcome::NoMemory;
+    };
+    match write_whole(output, line.as_bytes()) {
+        Ok(()) => Outcome::Done,
+        Err(_) => Outcome::WriteFault,
+    }
+}
+
 // The answer of `delays` to a whole input.
 fn serve_delays<O: Sink>(alloc: Global, bytes: &[u8], output: &mut O) -> Outcome
     ensures served { ServedDelays result bytes.now (O.taken output.old) (O.taken output.new) }
     ensures fault { result ≡ WriteFault → Rose (O.faults output.old) (O.faults output.new) }
     ensures whole { result ≢ TooLong }
 {
-    let value = match Value::from_slice(alloc, bytes) {
-        Ok(value) => value,
-        Err(error) if error.is_memory() => return Outcome::NoMemory,
-        Err(_) => return Outcome::BadText,
+    let segment = match segment_in(alloc, bytes) {
+        Ok(segment) => segment,
+        Err(Refusal::BadText) => return Outcome::BadText,
+        Err(Refusal::BadSegment(fault)) => return Outcome::BadSegment(fault),
+        Err(Refusal::NoMemory) => return Outcome::NoMemory,
     };
-    let file = match line_in(alloc, &value) {
+    let file = match line_of(alloc, &segment) {
         Ok(Some(file)) => file,
         Ok(None) => return Outcome::NotYet,
         Err(NoMemory) => return Outcome::NoMemory,
