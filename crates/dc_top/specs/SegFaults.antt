@@ -23,7 +23,7 @@ error_of Lead = error.Lead
 error_of (LossRun number) = error.LossRun number
 error_of TooMuch = error.TooMuch
 
--- the same of an input, whose text may be none
+-- the same of an input, which may be no JSON text
 abbrev pub refusal_error : Refusal → SegError
 refusal_error refusal.BadText = error.BadText
 refusal_error (refusal.BadSegment fault) = error_of fault

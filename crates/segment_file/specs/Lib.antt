@@ -7,5 +7,6 @@ pub mod Legal
 pub mod Seen
 pub mod ErrorOf
 pub mod FaultOf
+pub mod Failed
 pub mod Told
 pub mod InsideSegment

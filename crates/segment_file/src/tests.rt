@@ -23,6 +23,7 @@ const FILE: &str = concat!(
 
 #[test]
 fn a_file_is_read(rt: HostRuntime) {
+    laws::one_answer();
     let segment = read_segment(rt.alloc(), FILE.as_bytes()).expect(&rt, "a legal file");
     assert_eq!(rt;
         (

@@ -1,5 +1,5 @@
-use Rattle.segment_file.proofs.AnswerLemmas.{one_segment, legal_unrefused}
+use Rattle.segment_file.proofs.AnswerLemmas.{one_segment, legal_unrefused, one_refusal}
 use Rattle.segment_file.proofs.laws.one_answer.Goals as goal
 
 pub returns : goal.returns
-returns c = record { segment = one_segment; legal = legal_unrefused }
+returns c = record { segment = one_segment; legal = legal_unrefused; refusal = one_refusal }
