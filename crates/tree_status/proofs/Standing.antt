@@ -8,7 +8,7 @@ use Rattle.cable_tree.specs.Row.{Row, IsRow}
 use Rattle.cable_tree.specs.Segment.{IsTree}
 use Rattle.cable_tree.specs.FrameOrder.{order}
 use Rattle.cable_tree.proofs.Rising.{order_once}
-use Rattle.cable_tree.proofs.Members.{place_of}
+use Rattle.cable_tree.proofs.Members.{place_of, order_whole}
 use Rattle.tree_status.specs.Positions.{position_of}
 
 module _ (rows : List Row) where
@@ -52,6 +52,16 @@ module _ (rows : List Row) where
         position_or_len_is (λ q. eqb q r) (order rows) i 0 (omega arith)
         (λ k less. ne_eqb (slice_index (order rows) k) r (order_once rows tree slaves k i less within))
         (λ _. eq-eqb r r refl)
+
+    pub position_within : (r : ℕ) → r < length rows → position_of rows r < length (order rows)
+    position_within r within =
+        let place = place_of rows tree r within in
+        let is : position_of rows r ≡ place.0 = ap (position_of rows) (sym place.2) ∙ position_at place.0 place.1 in
+        let less = place.1 in
+        omega arith
+
+    pub row_within : (r : ℕ) → r < length rows → position_of rows r < length rows
+    row_within r within = let whole = order_whole rows tree slaves in let less = position_within r within in omega arith
 
     pub order_at : (r : ℕ) → r < length rows → slice_index (order rows) (position_of rows r) ≡ r
     order_at r within =
