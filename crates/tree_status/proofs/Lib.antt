@@ -2,3 +2,4 @@ pub mod Bits
 pub mod Standing
 pub mod Pieces
 pub mod Hanging
+pub mod Renumbered

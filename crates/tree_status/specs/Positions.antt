@@ -1,7 +1,7 @@
 -- A tree told by the positions of its slaves in the frame order, in place of their rows.
 use Rattle.std.specs.Prelude.{ℕ, eqb, Some, None, List, map}
 use Rattle.std.specs.List.{position_or_len}
-use Rattle.cable_tree.specs.Row.{Row, above}
+use Rattle.cable_tree.specs.Row.{Row, above, row_at}
 use Rattle.cable_tree.specs.FrameOrder.{order}
 use Rattle.dc_topology.specs.Listed.{Place}
 use Rattle.tree_status.specs.Status.{status_of}
@@ -25,3 +25,11 @@ statuses rows = map (status_of rows) (order rows)
 
 abbrev pub places : List Row → List Place
 places rows = map (placed rows) (order rows)
+
+-- the row of a slave, with its parent by position
+abbrev pub renumbered_row : List Row → ℕ → Row
+renumbered_row rows r = record (row_at rows r) { above = placed rows r }
+
+-- the rows in frame order, so that each position is a row
+abbrev pub renumbered : List Row → List Row
+renumbered rows = map (renumbered_row rows) (order rows)

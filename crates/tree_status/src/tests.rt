@@ -77,4 +77,5 @@ fn calls_the_laws(_rt: HostRuntime) {
     laws::positions();
     laws::subtrees_stand_together();
     laws::statuses_list_the_tree();
+    laws::renumbered_is_the_same_tree();
 }
