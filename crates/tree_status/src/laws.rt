@@ -2,7 +2,7 @@
 //! premises are that the rows are a tree and that each is a row that [`TreeRow::new`](cable_tree::TreeRow::new)
 //! makes.
 
-ghost use Rattle.std.specs.Prelude.{◌≡◌, ℕ, ◌<◌, true, not, List, ◌∷◌, ◌++◌, drop, length, map, slice_index, take};
+ghost use Rattle.std.specs.Prelude.{◌≡◌, ℕ, ◌+◌, ◌*◌, ◌<◌, true, false, not, List, ◌∷◌, ◌++◌, drop, length, map, slice_index, take};
 ghost use Rattle.std.specs.List.{All, range_with_len};
 ghost use Rattle.std.specs.Option.{is_some, option_map};
 ghost use Rattle.cable_tree.specs.FrameOrder.{behind, child, order, subtree};
@@ -11,18 +11,23 @@ ghost use Rattle.cable_tree.specs.Row.{Row, IsRow, row_at};
 ghost use Rattle.cable_tree.specs.Segment.{IsTree};
 ghost use Rattle.cable_tree.specs.declared.port.Port.{Port};
 ghost use Rattle.cable_tree.specs.declared.port.Port.TheVariants.{P1, P2, P3};
-ghost use Rattle.dc_topology.specs.DlStatus.{is_connected, is_closed, is_formed};
+ghost use Rattle.dc_topology.specs.DlStatus.{bit, is_connected, is_closed, is_formed};
 ghost use Rattle.dc_topology.specs.Listed.{Lists, port_number};
 ghost use Rattle.tree_status.specs.Status.{status_of};
 ghost use Rattle.tree_status.specs.Positions.{places, position_of, renumbered, renumbered_row, statuses};
 
 /// A status is well formed. Port 0 is connected in it, and another port exactly where a slave hangs there;
-/// every other port is closed.
+/// every other port is closed, and has no link. The bits 0 to 3 are 0.
 pub fn status_tells_ports()
     ensures formed { (rows : List Row) (r : ℕ) → is_formed (status_of rows r) ≡ true }
     ensures master { (rows : List Row) (r : ℕ) → is_connected (status_of rows r) 0 ≡ true }
     ensures connected { (rows : List Row) (r : ℕ) (p : Port) → is_connected (status_of rows r) (port_number p) ≡ is_some (child rows r p) }
     ensures closed { (rows : List Row) (r : ℕ) (p : Port) → is_closed (status_of rows r) (port_number p) ≡ not (is_some (child rows r p)) }
+    ensures bits { (rows : List Row) (r : ℕ) (p : Port)
+        → (bit (status_of rows r) (4 + port_number p) ≡ is_some (child rows r p))
+        × (bit (status_of rows r) (9 + 2 * port_number p) ≡ is_some (child rows r p))
+        × (bit (status_of rows r) (8 + 2 * port_number p) ≡ not (is_some (child rows r p))) }
+    ensures low { (rows : List Row) (r : ℕ) (place : ℕ) → place < 4 → bit (status_of rows r) place ≡ false }
 {}
 
 /// The position of a row is its place in the frame order.
