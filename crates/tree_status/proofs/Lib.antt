@@ -1,0 +1,5 @@
+pub mod Bits
+pub mod Standing
+pub mod Pieces
+pub mod Hanging
+pub mod Renumbered
