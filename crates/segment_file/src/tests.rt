@@ -1,7 +1,9 @@
 //! A file worked out by hand, and files that differ from it in a place or two. The shape of a file is
 //! tested where it is read.
 
-use super::{Id, LossRow, Phase, SegError, ShapeTree, clock_flags, measuring_flags, read_segment};
+use super::{
+    LossRow, Phase, SegError, ShapeTree, clock_flags, laws, measuring_flags, read_segment,
+};
 use cable_tree::{Above, Port};
 use esc_regs::ClockKind;
 use std::alloc::Global;

@@ -1,0 +1,18 @@
+#!/usr/bin/env bash
+# Sees that `dc check` answers each file of examples/ as examples/README.md says. The proved program has to be there.
+set -eu
+here=$(cd "$(dirname "${BASH_SOURCE[0]}")/.." && pwd)
+program=$here/crates/dc_cli/out/dc_cli
+[ -x "$program" ] || { echo "check_examples: .ci/run leaves the proved program that this runs" >&2; exit 1; }
+
+wrong=0
+files=0
+for file in "$here"/examples/*.json; do
+    files=$((files + 1))
+    name=${file##*/}
+    wanted=$(sed -n "s/^| \`$name\` |.*| \`\(legal [^\`]*\)\` |.*/\1/p" "$here/examples/README.md")
+    answer=$("$program" check < "$file" 2>&1) || true
+    [ "$answer" = "$wanted" ] || { wrong=1; echo "check_examples: $name: '$answer' for '$wanted'" >&2; }
+done
+[ "$wrong" -eq 0 ] && echo "check_examples: $files files"
+exit "$wrong"
