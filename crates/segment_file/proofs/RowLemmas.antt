@@ -1,12 +1,14 @@
 -- The rows of a segment and of its file.
-use Rattle.std.specs.Prelude.{◌≡◌, ℕ, List, [], ◌∷◌, length, map, None}
+use Rattle.std.specs.Prelude.{◌≡◌, ℕ, List, [], ◌∷◌, length, map, None, Ok}
 use Rattle.std.specs.List.{All}
 use Rattle.std.proofs.Common.{ap, refl, sym, subst, ◌∙◌, arith}
 use Rattle.std.proofs.lemmas.List.{length-map}
 use Rattle.std.proofs.lemmas.List.Elements.{All-map, All-weaker, All-nil, All-cons, All-head, All-tail}
 use Rattle.cable_tree.specs.Row.{IsRow}
 use Rattle.segment_shape.specs.Slaves.{SlaveValue}
-use Rattle.segment_shape.specs.ShapeOf.{ShapeValue}
+use Rattle.serde_json.specs.Data.{Data}
+use Rattle.segment_shape.specs.ShapeOf.{ShapeValue, file_of}
+use Rattle.segment_shape.proofs.RangeLemmas.{file_ranges}
 use Rattle.segment_shape.specs.Twice.{first_again}
 use Rattle.segment_shape.specs.Ranges.{IsSlave, IsLoss, IsFile}
 use Rattle.cable_tree.specs.Segment.{IsTree}
@@ -59,11 +61,13 @@ ids_stay ids (s ∷ slaves) = ap (λ x. s.id ∷ x) (ids_stay ids slaves)
 pub as_many : (rows : List SlaveRow) (slaves : List SlaveValue) → map row_seen rows ≡ placed_rows slaves → length rows ≡ length slaves
 as_many rows slaves e = sym (length-map rows row_seen) ∙ ap length e ∙ length-map slaves (placed_row (map (λ s. s.id) slaves))
 
-pub legal_rows : (shape : ShapeValue) → IsFile shape → (rows : List RowValue) → rows ≡ placed_rows shape.slaves → IsTree (tree_rows rows)
+pub legal_rows : (shape : ShapeValue) (d : Data) → file_of d ≡ Ok shape → (rows : List RowValue) → rows ≡ placed_rows shape.slaves → IsTree (tree_rows rows)
     → fault_of (record { head = shape.head; rows = rows; losses = shape.losses }) ≡ None → IsLegal (record { head = shape.head; rows = rows; losses = shape.losses })
-legal_rows shape file rows e tree faultless =
+legal_rows shape d is rows e tree faultless =
+    let file = file_ranges d shape is in
     let many : length rows ≡ length shape.slaves = ap length e ∙ length-map shape.slaves (placed_row (map (λ s. s.id) shape.slaves)) in
     record {
+      said = (d, record { shape = shape; file = is; is = ap (λ rs. record { head = shape.head; rows = rs; losses = shape.losses }) e });
       head = file.head;
       clocks = subst (All (IsClock shape.head.cycle_ns)) (sym e) (clocks_of_slaves shape.head.cycle_ns shape.slaves file.slaves);
       few_losses = file.few_losses;

@@ -1,6 +1,7 @@
 -- Segments that are legal.
 use Rattle.std.specs.Prelude.{◌≡◌, ℕ, ◌<◌, ◌≤◌, true, [], length, map, None, IfSome}
 use Rattle.std.specs.List.{All}
+use Rattle.serde_json.specs.Data.{Data}
 use Rattle.osc_clock.specs.Ticks.{AreRising}
 use Rattle.cable_tree.specs.Kept.{IsSegment}
 use Rattle.segment_shape.specs.Slaves.{measures, greatest_start}
@@ -8,6 +9,7 @@ use Rattle.segment_shape.specs.Ranges.{IsHead, IsRate, IsLoss}
 use Rattle.segment_shape.specs.Twice.{first_again}
 use Rattle.segment_file.specs.Segment.{RowValue, SegmentValue, tree_rows}
 use Rattle.segment_file.specs.Faults.{fault_of}
+use Rattle.segment_file.specs.Told.{Says}
 
 -- the numbers of a slave's clock, in a segment of this cycle time
 pub record IsClock (cycle_ns : ℕ) (r : RowValue) : Type 0 where
@@ -21,9 +23,10 @@ pub record IsClock (cycle_ns : ℕ) (r : RowValue) : Type 0 where
   pub shift_ns : r.shift_ns < cycle_ns
   pub sync1_ns : IfSome r.sync1_ns (λ ns. (1 ≤ ns) × (ns < cycle_ns))
 
--- The numbers lie in their ranges, no two slaves have one id, the slaves are a tree of at most 256, and
--- no fault is found.
+-- A file says the segment: its numbers lie in their ranges, and no two slaves have one id. The slaves are
+-- a tree of at most 256, and no fault is found.
 pub record IsLegal (s : SegmentValue) : Type 0 where
+  pub said : (d : Data) × Says d s
   pub head : IsHead s.head
   pub clocks : All (IsClock s.head.cycle_ns) s.rows
   pub few_losses : length s.losses ≤ 10000

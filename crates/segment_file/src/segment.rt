@@ -1,6 +1,8 @@
-ghost use Rattle.std.specs.Prelude.{◌≡◌, ◌<◌, ◌≤◌, IfErr, IfOk, Some, length, map, pos, ◌≤ℤ◌};
+ghost use Rattle.std.specs.Prelude.{◌≡◌, ◌<◌, ◌≤◌, IfErr, IfOk, Ok, Some, length, map, pos, ◌≤ℤ◌};
+ghost use Rattle.serde_json.specs.Data.{Data};
 ghost use Rattle.segment_shape.specs.Ranges.{IsFile};
 ghost use Rattle.segment_shape.specs.Seen.{shape_seen};
+ghost use Rattle.segment_shape.specs.ShapeOf.{file_of};
 ghost use Rattle.segment_file.specs.Faults.{frames_of_run, lock_in, step_of};
 ghost use Rattle.segment_file.specs.Legal.{IsLegal};
 ghost use Rattle.segment_file.specs.Placed.{placed};
@@ -182,7 +184,8 @@ impl Segment {
 
 // The segment that a shape describes, where it passes the checks of the tree and those behind it.
 fn segment_of(alloc: Global, shape: Shape) -> Result<Segment, SegError>
-    requires { IsFile (shape_seen shape) }
+    requires said { (d : Data) × (file_of d ≡ Ok (shape_seen shape)) }
+    requires file { IsFile (shape_seen shape) }
     ensures ok { IfOk result (λ s. (s ≡ placed (shape_seen shape)) × IsLegal s) }
     ensures err { IfErr result (IsRefusal (shape_seen shape)) }
 {
