@@ -17,7 +17,7 @@ const LOST_TWICE: &str = concat!(
 
 const LOST_FAR: &str = r#""losses":[{"phase":"drift","number":2,"after":3}],"slaves""#;
 
-// Where B stands, a slave without a clock before it, and C on its port 2.
+// In place of the start of B's row: J without a clock, C at its port 2, and that start.
 const BRANCH: &str = concat!(
     r#"{"id":"J","clock":"none","tp_ns":310,"tf_ns":300,"cable_ps":50000,"parent":"A","port":1},"#,
     r#"{"id":"C","clock":"c64","tp_ns":310,"tf_ns":300,"cable_ps":50000,"parent":"J","port":2,"#,
@@ -76,7 +76,7 @@ fn the_numbers_of_legal_files_are_written(rt: HostRuntime) -> Result<(), Fail> {
     let alloc = rt.alloc();
     let text = "legal slaves 2 clocks 2 lock_in 0 mu 1542 window_fs 65500000\n";
     assert_legal(&rt, alloc, TWO_SLAVES, &[], text);
-    // The round trip is 2 fs shorter than the period.
+    // The round trip is 2 ps shorter than the period.
     let quick: Edits<'_> = &[
         (r#""frame_ns":1000000"#, r#""frame_ns":50000"#),
         (r#""tp_ns":310"#, r#""tp_ns":10000"#),
@@ -94,7 +94,10 @@ fn the_numbers_of_legal_files_are_written(rt: HostRuntime) -> Result<(), Fail> {
 fn bad_shapes_are_told_by_their_path(rt: HostRuntime) -> Result<(), Fail> {
     let alloc = rt.alloc();
     assert_no_text(&rt, alloc, &[0xff]);
-    assert_no_text(&rt, alloc, "[".repeat(alloc, 200)?.as_bytes());
+    // JSON, but deeper than what is read.
+    let mut deep = "[".repeat(alloc, 200)?;
+    deep.push_str("]".repeat(alloc, 200)?.as_str())?;
+    assert_no_text(&rt, alloc, deep.as_bytes());
     let cases: [(Edits<'_>, &str); 8] = [
         (&[(r#""ppm":0"#, r#""ppm":101"#)], "shape ppm"),
         (&[(r#""speed":4096,"#, "")], "shape speed"),
@@ -185,11 +188,33 @@ fn what_cannot_be_run_in_time_is_refused(rt: HostRuntime) -> Result<(), Fail> {
     for (edits, reason) in cases {
         assert_refused(&rt, alloc, TWO_SLAVES, edits, reason);
     }
+    Ok(())
+}
+
+#[test]
+fn at_a_limit_a_file_is_legal_and_past_it_not(rt: HostRuntime) -> Result<(), Fail> {
+    let alloc = rt.alloc();
+    let quick = (r#""frame_ns":1000000"#, r#""frame_ns":50000"#);
+    let speed = r#""speed":4096"#;
+    let text = "legal slaves 2 clocks 2 lock_in 0 mu 1 window_fs 65500000\n";
+    let at_limit: Edits<'_> = &[quick, (speed, r#""speed":15295"#)];
+    assert_legal(&rt, alloc, TWO_SLAVES, at_limit, text);
+    let past: Edits<'_> = &[quick, (speed, r#""speed":15296"#)];
+    assert_refused(&rt, alloc, TWO_SLAVES, past, "no lock");
+
+    let cycles = r#""cycles":3"#;
+    let text = "legal slaves 2 clocks 2 lock_in 0 mu 1542 window_fs 65500000\n";
+    let at_limit: Edits<'_> = &[(cycles, r#""cycles":99852"#)];
+    assert_legal(&rt, alloc, TWO_SLAVES, at_limit, text);
+    let past: Edits<'_> = &[(cycles, r#""cycles":99853"#)];
+    assert_refused(&rt, alloc, TWO_SLAVES, past, "too much");
+
     let far: Edits<'_> = &[
         (r#""frame_ns":1000000"#, r#""frame_ns":10000000"#),
-        (r#""loss_run":1"#, r#""loss_run":15"#),
         (r#""cycle_ns":1000000"#, r#""cycle_ns":500000000"#),
     ];
-    assert_refused(&rt, alloc, &line_of(alloc, 11)?, far, "lead");
+    let text = "legal slaves 14 clocks 14 lock_in 0 mu 15605 window_fs 121000000\n";
+    assert_legal(&rt, alloc, &line_of(alloc, 14)?, far, text);
+    assert_refused(&rt, alloc, &line_of(alloc, 15)?, far, "lead");
     Ok(())
 }

@@ -3,7 +3,7 @@
 //! of `specs/LatchLaw.antt`), whose bound `g` of one difference of two latches is a parameter: so the
 //! laws hold too where slaves only measure, and where clocks correct while they are measured.
 
-ghost use Rattle.std.specs.Prelude.{◌≡◌, ℕ, ◌+◌, ◌-◌, ◌*◌, ◌/◌, ◌<◌, ◌≤◌, ◌^◌, Bool, true, Some, None, List, length, map};
+ghost use Rattle.std.specs.Prelude.{◌≡◌, ℕ, ◌+◌, ◌-◌, ◌*◌, ◌/◌, ◌<◌, ◌≤◌, ◌^◌, Bool, true, Some, None, List, length};
 ghost use Rattle.std.specs.List.{All};
 ghost use Rattle.cable_tree.specs.FrameOrder.{order};
 ghost use Rattle.cable_tree.specs.PathSums.{arrive, round_trip, span};

@@ -1,4 +1,4 @@
-ghost use Rattle.std.specs.Prelude.{◌≡◌, ◌<◌, ◌≤◌, ◌&&◌, not, length};
+ghost use Rattle.std.specs.Prelude.{◌≡◌, ◌<◌, ◌&&◌, not, length};
 ghost use Rattle.dc_bounds.specs.Measurable.{branches, is_measurable, unmeasurable};
 ghost use Rattle.dc_delay.specs.ShapeRows.{positions};
 ghost use Rattle.dc_delay.specs.Table.{IsTable, table_measures, table_rows};

@@ -5,7 +5,7 @@ use crate::kind::Kind;
 use crate::latch::Latch;
 use cable_tree::{Above, Port};
 
-// The ports at which a slave hangs.
+// At which of its ports another slave hangs.
 #[derive(Clone, Copy, Debug)]
 pub(crate) struct Connected {
     pub(crate) p1: bool,

@@ -1,6 +1,6 @@
-ghost use Rattle.std.specs.Prelude.{◌≡◌, ◌<◌, ◌≤◌, ◌+◌, ◌*◌, ◌^◌, length, IfSome, Some};
+ghost use Rattle.std.specs.Prelude.{◌≡◌, ◌<◌, ◌≤◌, ◌+◌, ◌^◌, length, IfSome, Some};
 ghost use Rattle.cable_tree.specs.Hops.{last_port, previous};
-ghost use Rattle.dc_bounds.specs.Weight.{is_connected, measuring_parent};
+ghost use Rattle.dc_bounds.specs.Weight.{measuring_parent};
 ghost use Rattle.dc_delay.specs.MeasuredDelay.{ahead, back, forwarding_ns, hop_ahead, hop_back, latched_before, passed, turn};
 ghost use Rattle.dc_delay.specs.ShapeRows.{tf_ns, tp_ns};
 ghost use Rattle.dc_delay.specs.Table.{IsTable, table_laps, table_measures, table_rows};

@@ -1,8 +1,9 @@
 //! The bounds of one segment: how near the measured delays of its clocks are to the true ones, how near
 //! their local copies stay to that of the reference, and how far apart edges of one index can be.
 //!
-//! Each call puts the numbers of a legal segment into the formulas of `dc_bounds`. All are in fs, none
-//! takes memory, and a clock is named by its row. Contracts cite `specs/Bounds.antt` and
+//! Each call puts the numbers of a legal segment into the formulas of `dc_bounds`; that clocks which are
+//! run keep to them is no part of this crate. All are in fs, none takes memory, and a clock is named by
+//! its row. Contracts cite `specs/Bounds.antt` and
 //! `specs/Window.antt`.
 #![tactic(auto)]
 

@@ -49,8 +49,8 @@ fn greatest(ppm: u32, signals: &[Signal]) -> u128
     greatest
 }
 
-/// W: the greatest distance of two edges of one index at two different slaves, shifts taken off, once the
-/// clocks are together (fs). It is 0 where no two slaves have a signal.
+/// The greatest W of two signals of different slaves: how far apart edges of one index can be, shifts taken
+/// off, once the clocks are together (fs). It is 0 where no two slaves have a signal.
 #[tactic(auto, unfolding(crate::specs::Window::window_of))]
 pub fn window(segment: &Segment) -> u128
     ensures { result ≡ window_of segment.now }

@@ -10,7 +10,7 @@ use Rattle.serde_json.specs.Data.{Data}
 use Rattle.segment_shape.specs.ShapeOf.{ShapeValue, file_of}
 use Rattle.segment_shape.proofs.RangeLemmas.{file_ranges}
 use Rattle.segment_shape.specs.Twice.{first_again}
-use Rattle.segment_shape.specs.Ranges.{IsSlave, IsLoss, IsFile}
+use Rattle.segment_shape.specs.Ranges.{IsSlave, IsLoss}
 use Rattle.cable_tree.specs.Segment.{IsTree}
 use Rattle.segment_file.specs.declared.slave_row.SlaveRow.{SlaveRow}
 use Rattle.segment_file.specs.Seen.{row_seen}

@@ -36,7 +36,7 @@ fault_if fault b = if b then Some fault else None
 abbrev pub is_within : ℕ → ℕ → Bool
 is_within ppm period = nat_le (tick_fs - tolerance ppm) period && nat_le period (tick_fs + tolerance ppm)
 
--- the clock of a slave has a period that is not, at first or later, or its first tick comes after its first period
+-- the clock of a slave has a period outside the ppm, at first or later, or its first tick comes after its first period
 abbrev pub is_off : ℕ → RowValue → Bool
 is_off ppm r =
     is_measuring r && not (nat_le r.phase_fs r.period_fs && is_within ppm r.period_fs && list_all (λ change. is_within ppm change.period) r.rates)

@@ -23,8 +23,9 @@ pub record IsClock (cycle_ns : ℕ) (r : RowValue) : Type 0 where
   pub shift_ns : r.shift_ns < cycle_ns
   pub sync1_ns : IfSome r.sync1_ns (λ ns. (1 ≤ ns) × (ns < cycle_ns))
 
--- A file says the segment: its numbers lie in their ranges, and no two slaves have one id. The slaves are
--- a tree of at most 256, and no fault is found.
+-- A file says the segment. The slaves are a tree of at most 256, and no fault is found. That its numbers
+-- lie in their ranges and that no two slaves have one id follows from what a file can say; it is here for
+-- those who count on it.
 pub record IsLegal (s : SegmentValue) : Type 0 where
   pub said : (d : Data) × Says d s
   pub head : IsHead s.head

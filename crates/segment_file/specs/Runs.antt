@@ -21,7 +21,7 @@ last_number = 100000
 abbrev pub first_run : List LossRow → ℕ → Option ℕ
 first_run losses count = find (is_run losses count) (range_with_len 1 last_number)
 
--- marks of the drift frames that are lost
+-- marks of the drift frames that are lost, by their numbers: up to the last number, and the 16 behind it, which never are
 pub record AreMarks (losses : List LossRow) (marks : List Bool) : Type 0 where
   pub enough : length marks ≡ 100017
   pub told : (number : ℕ) → number < 100017 → slice_index_or marks number false ≡ is_lost losses number

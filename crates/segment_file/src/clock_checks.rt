@@ -33,7 +33,7 @@ fn are_within(ppm: u32, rates: &[RateRow]) -> bool
     true
 }
 
-// Whether a clock has a period that is not, or its first tick comes after its first period.
+// Whether a clock has a period outside the ppm, or its first tick comes after its first period.
 fn is_off(ppm: u32, row: &SlaveRow) -> bool
     requires { ppm ≤ 100 }
     ensures { result ≡ is_off ppm (row_seen row.now) }

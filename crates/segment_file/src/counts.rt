@@ -9,9 +9,11 @@ use segment_shape::{has_clock, measures};
 /// How many slaves and signals a segment has.
 #[derive(Clone, Copy, Debug, PartialEq, Eq)]
 pub struct Counts {
+    /// Slaves of any kind.
     pub slaves: u16,
     /// Slaves that take receive times.
     pub measuring: u16,
+    /// Slaves whose clocks are kept together.
     pub clocks: u16,
     /// SYNC0 of each clock, and SYNC1 where it is asked for.
     pub signals: u16,

@@ -10,11 +10,14 @@ use std::alloc::{AllocError, Global};
 /// The greatest number of a frame that is listed as lost.
 const LAST_NUMBER: u32 = 100_000;
 
+/// Marks of the numbers from 0 on: so many that those of the longest run from the last number are among them.
+const MARKS: usize = 100_017;
+
 // Marks of which none is set.
 fn clear_marks(alloc: Global) -> Result<Vec<bool>, AllocError>
     ensures { IfOk result (λ v. AreMarks [] v.items) }
 {
-    let marks = vec![in alloc; false; 100_017]?;
+    let marks = vec![in alloc; false; MARKS]?;
     Ok(marks)
 }
 

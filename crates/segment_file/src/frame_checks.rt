@@ -13,9 +13,10 @@ use dc_bounds::{lock_count, reach_fs, run_frames};
 use segment_shape::{Head, LossRow};
 use std::alloc::Global;
 
-/// The most frames of a run, and the most edges.
+/// The most transmissions that a run may take.
 const MOST_FRAMES: u128 = 100_000;
 
+/// The most edges of all signals together.
 const MOST_EDGES: u64 = 200_000;
 
 /// K.

@@ -26,8 +26,8 @@ pub enum ShapeTree {
 pub enum SegError {
     /// The bytes are no JSON text.
     BadText,
-    /// The value at this path is missing, of a wrong type or out of its range, or has a key that is not
-    /// known.
+    /// The value at this path is missing, of a wrong type or out of its range, does not belong there, or has
+    /// a key that is not known.
     Shape(KeyPath),
     /// The id of the first row whose id an earlier row has.
     Twice(Id),
@@ -44,7 +44,7 @@ pub enum SegError {
     TooSlow,
     /// The clocks need not come together.
     NoLock,
-    /// A start may lie too far ahead for a 32-bit clock.
+    /// A start may lie too far ahead for a 32-bit clock. All clocks are held to it, whatever their kinds.
     Lead,
     /// More drift frames than `loss_run` are lost in a row, the first time from this one on.
     LossRun(u32),

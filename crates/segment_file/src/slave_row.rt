@@ -14,6 +14,7 @@ use segment_shape::{Id, has_clock, measures};
 pub struct SlaveRow {
     /// No other row has it.
     pub id: Id,
+    /// Whether it takes receive times, and which clock it has.
     pub kind: ClockKind,
     /// From port 0 through the processing unit to the first port out, 1 to 10,000.
     pub tp_ns: u16,
