@@ -12,9 +12,9 @@ use Rattle.cable_tree.specs.Hops.{previous, last_port, lap, lap_before, forwardi
 use Rattle.dc_bounds.specs.TickFacts.{IsNear}
 use Rattle.dc_bounds.specs.Weight.{measuring_parent, hop_weight, hops_within, is_leaf, is_over, weight_below}
 use Rattle.dc_delay.specs.ShapeRows.{tp_ns, tf_ns}
-use Rattle.dc_delay.specs.MeasuredDelay.{ahead, ahead_by, back, back_by, latched_before, forwarding_ns, passed, turn}
+use Rattle.dc_delay.specs.MeasuredDelay.{ahead, back, hop_ahead, hop_back, latched_before, forwarding_ns, passed, summed_from, turn}
 use Rattle.dc_delay.specs.LatchLaw.{AreAllLatched, AreMeasurable}
-use Rattle.dc_delay.proofs.Recursions.{climb_measuring, parent_measures, parent_within, hops_is, over_is, ahead_is, back_is}
+use Rattle.dc_delay.proofs.Recursions.{climb_measuring, parent_measures, parent_within, hops_is, over_is, summed_is}
 use Rattle.dc_delay.proofs.TrueHops.{port_used, hopped}
 use Rattle.dc_delay.proofs.HopErrors.{hop_error, turn_near, turned, spanned, near_same}
 
@@ -83,8 +83,8 @@ module _ (rows : List Row) (tree : IsTree rows) (measures : ℕ → Bool) (laps 
       (spanned rows a.row tree inside a.port used.0 used.1)
       error
       (omega (arith, hop, x)) in
-      let sum = ahead_is rows tree measures laps r within ∙ ap (ahead_by rows measures laps r (ahead rows measures laps)) up in
-      let taken = back_is rows tree measures laps r within ∙ ap (back_by rows measures laps r (back rows measures laps)) up in
+      let sum = summed_is rows tree measures (hop_ahead rows measures laps) r within ∙ ap (summed_from (hop_ahead rows measures laps) r (ahead rows measures laps)) up in
+      let taken = summed_is rows tree measures (hop_back rows measures laps) r within ∙ ap (summed_from (hop_back rows measures laps) r (back rows measures laps)) up in
       let more : hops r ≡ hop_weight rows a + hops a.row = hops_is rows tree measures c r within ∙ rw (away, up) refl in
       let w : (1 + hops r) * g ≡ budget + weight = rw more (omega arith) in
       record { above = omega (arith, go.above, sum, taken, w); below = omega (arith, go.below, sum, taken, w) }

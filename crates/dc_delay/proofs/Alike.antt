@@ -15,7 +15,7 @@ use Rattle.cable_tree.specs.Hops.{or_before, previous, last_port}
 use Rattle.dc_bounds.specs.Weight.{measuring_from, measuring_within, measuring_parent}
 use Rattle.dc_bounds.specs.Measurable.{branches, leads_from, is_measured_within, is_measurable, unmeasurable}
 use Rattle.dc_delay.specs.ShapeRows.{row_of, rows_of, places_of, kind_of, kinds_of, tp_ns, tf_ns}
-use Rattle.dc_delay.specs.MeasuredDelay.{latched_before, forwarding_ns, turn_by, passed_from, passed_within, passed, hop_ahead, hop_back, ahead_by, ahead_within, ahead, back_by, back_within, back, delay_from, delay, delays_from, delay_list}
+use Rattle.dc_delay.specs.MeasuredDelay.{latched_before, forwarding_ns, turn_by, passed_from, passed_within, passed, hop_ahead, hop_back, summed_from, summed_within, summed, ahead, back, delay_from, delay, delays_from, delay_list}
 
 -- a row without its cable
 abbrev bare : Row → Row
@@ -123,6 +123,23 @@ module _ (rows others : List Row) (alike : AreAlike rows others) where
     forwarding_same r None = alike.tp r
     forwarding_same r (Some q) = alike.tf r
 
+    summed_steps : (number number' : Above → ℕ → ℕ) → ((a : Above) (r : ℕ) → number a r ≡ number' a r)
+        → (hops r : ℕ) → summed_within rows measures number hops r ≡ summed_within others measures number' hops r
+    unfolding summed_within
+    summed_steps number number' e zero r = refl
+    summed_steps number number' e (suc hops) r =
+        ap (λ h. summed_from number r h (measuring_parent rows measures r)) (fun_ext (λ q. summed_steps number number' e hops q))
+        ∙ ap (summed_from number r (summed_within others measures number' hops)) (parent_same r)
+        ∙ by (summed_within others measures number' hops) (measuring_parent others measures r)
+      where
+        by : (h : ℕ → ℕ) (o : Option Above) → summed_from number r h o ≡ summed_from number' r h o
+        by h None = refl
+        by h (Some a) = ap (λ n. h a.row + n) (e a r)
+
+    summed_same : (number number' : Above → ℕ → ℕ) → ((a : Above) (r : ℕ) → number a r ≡ number' a r)
+        → (r : ℕ) → summed rows measures number r ≡ summed others measures number' r
+    summed_same number number' e r = summed_steps number number' e (length rows) r ∙ ap (λ n. summed_within others measures number' n r) alike.whole
+
     module _ (laps : ℕ → Port → ℕ) where
       turn_by_same : (r : ℕ) (o : Option Port) → turn_by rows laps r o ≡ turn_by others laps r o
       turn_by_same r None = alike.tp r
@@ -135,41 +152,17 @@ module _ (rows others : List Row) (alike : AreAlike rows others) where
           let tps = passed_same (tp_ns rows) (tp_ns others) (fun_ext alike.tp) r in
           omega (arith, before, x, tps)
 
-      hop_back_same : (r : ℕ) → hop_back rows measures laps r ≡ hop_back others measures laps r
-      hop_back_same r =
+      hop_back_same : (a : Above) (r : ℕ) → hop_back rows measures laps a r ≡ hop_back others measures laps a r
+      hop_back_same a r =
           let tfs = passed_same (tf_ns rows) (tf_ns others) (fun_ext alike.tf) r in
           let s = ap (turn_by rows laps r) (last_same r) ∙ turn_by_same r (last_port others r) in
           omega (arith, tfs, s)
 
-      ahead_steps : (hops r : ℕ) → ahead_within rows measures laps hops r ≡ ahead_within others measures laps hops r
-      unfolding ahead_within
-      ahead_steps zero r = refl
-      ahead_steps (suc hops) r =
-          ap (λ h. ahead_by rows measures laps r h (measuring_parent rows measures r)) (fun_ext (λ q. ahead_steps hops q))
-          ∙ ap (ahead_by rows measures laps r (ahead_within others measures laps hops)) (parent_same r)
-          ∙ by (ahead_within others measures laps hops) (measuring_parent others measures r)
-        where
-          by : (h : ℕ → ℕ) (o : Option Above) → ahead_by rows measures laps r h o ≡ ahead_by others measures laps r h o
-          by h None = refl
-          by h (Some a) = ap (λ n. h a.row + n) (hop_ahead_same a r)
-
-      back_steps : (hops r : ℕ) → back_within rows measures laps hops r ≡ back_within others measures laps hops r
-      unfolding back_within
-      back_steps zero r = refl
-      back_steps (suc hops) r =
-          ap (λ h. back_by rows measures laps r h (measuring_parent rows measures r)) (fun_ext (λ q. back_steps hops q))
-          ∙ ap (back_by rows measures laps r (back_within others measures laps hops)) (parent_same r)
-          ∙ by (back_within others measures laps hops) (measuring_parent others measures r)
-        where
-          by : (h : ℕ → ℕ) (o : Option Above) → back_by rows measures laps r h o ≡ back_by others measures laps r h o
-          by h None = refl
-          by h (Some a) = ap (λ n. h a.row + n) (hop_back_same r)
-
       ahead_same : (r : ℕ) → ahead rows measures laps r ≡ ahead others measures laps r
-      ahead_same r = ahead_steps (length rows) r ∙ ap (λ n. ahead_within others measures laps n r) alike.whole
+      ahead_same = summed_same (hop_ahead rows measures laps) (hop_ahead others measures laps) hop_ahead_same
 
       back_same : (r : ℕ) → back rows measures laps r ≡ back others measures laps r
-      back_same r = back_steps (length rows) r ∙ ap (λ n. back_within others measures laps n r) alike.whole
+      back_same = summed_same (hop_back rows measures laps) (hop_back others measures laps) hop_back_same
 
       delay_same : (reference : Option ℕ) (r : ℕ) → delay_from rows measures laps reference r ≡ delay_from others measures laps reference r
       delay_same None r = refl

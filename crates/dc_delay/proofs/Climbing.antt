@@ -2,11 +2,10 @@
 use Rattle.std.specs.Prelude.{◌≡◌, ℕ, suc, zero, ◌+◌, ◌-◌, ◌<◌, ◌≤◌, Bool, true, false, not, ◌&&◌, Some, None, List}
 use Rattle.std.proofs.Common.{arith, refl, ◌∙◌}
 use Rattle.cable_tree.specs.declared.port.Above.{Above}
-use Rattle.cable_tree.specs.declared.port.Port.{Port}
 use Rattle.cable_tree.specs.Row.{Row, above}
 use Rattle.dc_bounds.specs.Weight.{measuring_parent}
 use Rattle.dc_bounds.specs.Measurable.{branches, leads_from, is_measured_within}
-use Rattle.dc_delay.specs.MeasuredDelay.{passed_from, passed_within, hop_ahead, hop_back, ahead_by, ahead_within, back_by, back_within}
+use Rattle.dc_delay.specs.MeasuredDelay.{passed_from, passed_within, summed_from, summed_within}
 
 passed_step : (rows : List Row) (measures : ℕ → Bool) (number : ℕ → ℕ) (n k r : ℕ) → k < n
     → passed_within rows measures number (n - k) r ≡ passed_from measures number (passed_within rows measures number (n - (k + 1))) (above rows r)
@@ -28,37 +27,21 @@ pub passed_higher : (rows : List Row) (measures : ℕ → Bool) (number : ℕ �
     → passed_within rows measures number (n - k) r ≡ number a.row + passed_within rows measures number (n - (k + 1)) a.row
 passed_higher rows measures number n k r a h up not_measured = passed_step rows measures number n k r h ∙ rw (up, not_measured) refl
 
-ahead_step : (rows : List Row) (measures : ℕ → Bool) (laps : ℕ → Port → ℕ) (n k r : ℕ) → k < n
-    → ahead_within rows measures laps (n - k) r ≡ ahead_by rows measures laps r (ahead_within rows measures laps (n - (k + 1))) (measuring_parent rows measures r)
-unfolding ahead_within
-ahead_step rows measures laps n k r h = let e : n - k ≡ suc (n - (k + 1)) = omega arith in rw e refl
+summed_step : (rows : List Row) (measures : ℕ → Bool) (number : Above → ℕ → ℕ) (n k r : ℕ) → k < n
+    → summed_within rows measures number (n - k) r ≡ summed_from number r (summed_within rows measures number (n - (k + 1))) (measuring_parent rows measures r)
+unfolding summed_within
+summed_step rows measures number n k r h = let e : n - k ≡ suc (n - (k + 1)) = omega arith in rw e refl
 
-pub ahead_end : (rows : List Row) (measures : ℕ → Bool) (laps : ℕ → Port → ℕ) (n k r : ℕ) → n ≤ k → ahead_within rows measures laps (n - k) r ≡ 0
-unfolding ahead_within
-ahead_end rows measures laps n k r h = let e : n - k ≡ 0 = omega arith in rw e refl
+pub summed_end : (rows : List Row) (measures : ℕ → Bool) (number : Above → ℕ → ℕ) (n k r : ℕ) → n ≤ k → summed_within rows measures number (n - k) r ≡ 0
+unfolding summed_within
+summed_end rows measures number n k r h = let e : n - k ≡ 0 = omega arith in rw e refl
 
-pub ahead_top : (rows : List Row) (measures : ℕ → Bool) (laps : ℕ → Port → ℕ) (n k r : ℕ) → k < n → measuring_parent rows measures r ≡ None → ahead_within rows measures laps (n - k) r ≡ 0
-ahead_top rows measures laps n k r h top = ahead_step rows measures laps n k r h ∙ rw top refl
+pub summed_top : (rows : List Row) (measures : ℕ → Bool) (number : Above → ℕ → ℕ) (n k r : ℕ) → k < n → measuring_parent rows measures r ≡ None → summed_within rows measures number (n - k) r ≡ 0
+summed_top rows measures number n k r h top = summed_step rows measures number n k r h ∙ rw top refl
 
-pub ahead_higher : (rows : List Row) (measures : ℕ → Bool) (laps : ℕ → Port → ℕ) (n k r : ℕ) (a : Above) → k < n → measuring_parent rows measures r ≡ Some a
-    → ahead_within rows measures laps (n - k) r ≡ ahead_within rows measures laps (n - (k + 1)) a.row + hop_ahead rows measures laps a r
-ahead_higher rows measures laps n k r a h up = ahead_step rows measures laps n k r h ∙ rw up refl
-
-back_step : (rows : List Row) (measures : ℕ → Bool) (laps : ℕ → Port → ℕ) (n k r : ℕ) → k < n
-    → back_within rows measures laps (n - k) r ≡ back_by rows measures laps r (back_within rows measures laps (n - (k + 1))) (measuring_parent rows measures r)
-unfolding back_within
-back_step rows measures laps n k r h = let e : n - k ≡ suc (n - (k + 1)) = omega arith in rw e refl
-
-pub back_end : (rows : List Row) (measures : ℕ → Bool) (laps : ℕ → Port → ℕ) (n k r : ℕ) → n ≤ k → back_within rows measures laps (n - k) r ≡ 0
-unfolding back_within
-back_end rows measures laps n k r h = let e : n - k ≡ 0 = omega arith in rw e refl
-
-pub back_top : (rows : List Row) (measures : ℕ → Bool) (laps : ℕ → Port → ℕ) (n k r : ℕ) → k < n → measuring_parent rows measures r ≡ None → back_within rows measures laps (n - k) r ≡ 0
-back_top rows measures laps n k r h top = back_step rows measures laps n k r h ∙ rw top refl
-
-pub back_higher : (rows : List Row) (measures : ℕ → Bool) (laps : ℕ → Port → ℕ) (n k r : ℕ) (a : Above) → k < n → measuring_parent rows measures r ≡ Some a
-    → back_within rows measures laps (n - k) r ≡ back_within rows measures laps (n - (k + 1)) a.row + hop_back rows measures laps r
-back_higher rows measures laps n k r a h up = back_step rows measures laps n k r h ∙ rw up refl
+pub summed_higher : (rows : List Row) (measures : ℕ → Bool) (number : Above → ℕ → ℕ) (n k r : ℕ) (a : Above) → k < n → measuring_parent rows measures r ≡ Some a
+    → summed_within rows measures number (n - k) r ≡ summed_within rows measures number (n - (k + 1)) a.row + number a r
+summed_higher rows measures number n k r a h up = summed_step rows measures number n k r h ∙ rw up refl
 
 measured_step : (rows : List Row) (measures : ℕ → Bool) (n k r : ℕ) → k < n
     → is_measured_within rows measures (n - k) r ≡ leads_from measures (branches rows) (is_measured_within rows measures (n - (k + 1))) (above rows r)

@@ -2,12 +2,11 @@
 use Rattle.std.specs.Prelude.{◌≡◌, ℕ, suc, zero, ◌+◌, ◌<◌, Bool, true, false, ◌&&◌, ◌||◌, not, nat_eq, if◌then◌else◌, Option, Some, None, MatchOption, List, length}
 use Rattle.std.proofs.Common.{refl, sym, ap, ◌∙◌, subst}
 use Rattle.cable_tree.specs.declared.port.Above.{Above}
-use Rattle.cable_tree.specs.declared.port.Port.{Port}
 use Rattle.cable_tree.specs.Row.{Row, above}
 use Rattle.cable_tree.specs.Segment.{IsTree, LeadsToRoot}
 use Rattle.dc_bounds.specs.Weight.{measuring_from, measuring_within, measuring_parent, hop_weight, hops_by, hops_within, reaches, is_over, higher_or, meeting_within}
 use Rattle.dc_bounds.specs.Measurable.{branches, leads_from, is_measured_within, is_measurable}
-use Rattle.dc_delay.specs.MeasuredDelay.{passed_from, passed_within, hop_ahead, hop_back, ahead_by, ahead_within, back_by, back_within}
+use Rattle.dc_delay.specs.MeasuredDelay.{passed_from, passed_within, summed_from, summed_within}
 
 -- a parent leads to the root in one step less
 lower_above : (rows : List Row) (s r : ℕ) (a : Above) → above rows r ≡ Some a → LeadsToRoot rows (suc s) r → LeadsToRoot rows s a.row
@@ -153,17 +152,9 @@ module _ (rows : List Row) (tree : IsTree rows) where
         at rows (measuring_parent rows measures) lower ℕ (meeting_within rows measures reference) (λ r g o. if is_over rows measures r (length rows) reference then r else higher_or r g o)
         (λ n r. refl) (λ r g h. refl) (λ r g h a e. ap (λ x. if is_over rows measures r (length rows) reference then r else x) e) (length rows) r (tree.leads r within)
 
-    module _ (laps : ℕ → Port → ℕ) where
-      pub ahead_is : (r : ℕ) → r < length rows → ahead_within rows measures laps (length rows) r
-          ≡ ahead_by rows measures laps r (ahead_within rows measures laps (length rows)) (measuring_parent rows measures r)
-      unfolding ahead_within
-      ahead_is r within =
-          at rows (measuring_parent rows measures) lower ℕ (ahead_within rows measures laps) (λ r g o. ahead_by rows measures laps r g o)
-          (λ n r. refl) (λ r g h. refl) (λ r g h a e. ap (λ x. x + hop_ahead rows measures laps a r) e) (length rows) r (tree.leads r within)
-
-      pub back_is : (r : ℕ) → r < length rows → back_within rows measures laps (length rows) r
-          ≡ back_by rows measures laps r (back_within rows measures laps (length rows)) (measuring_parent rows measures r)
-      unfolding back_within
-      back_is r within =
-          at rows (measuring_parent rows measures) lower ℕ (back_within rows measures laps) (λ r g o. back_by rows measures laps r g o)
-          (λ n r. refl) (λ r g h. refl) (λ r g h a e. ap (λ x. x + hop_back rows measures laps r) e) (length rows) r (tree.leads r within)
+    pub summed_is : (number : Above → ℕ → ℕ) (r : ℕ) → r < length rows → summed_within rows measures number (length rows) r
+        ≡ summed_from number r (summed_within rows measures number (length rows)) (measuring_parent rows measures r)
+    unfolding summed_within
+    summed_is number r within =
+        at rows (measuring_parent rows measures) lower ℕ (summed_within rows measures number) (λ r g o. summed_from number r g o)
+        (λ n r. refl) (λ r g h. refl) (λ r g h a e. ap (λ x. x + number a r) e) (length rows) r (tree.leads r within)

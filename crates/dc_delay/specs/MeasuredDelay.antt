@@ -46,34 +46,28 @@ hop_ahead rows measures laps a r =
     let before = previous rows a.row a.port in
     latched_before laps a.row before + laps a.row a.port + forwarding_ns rows a.row before + passed rows measures (tp_ns rows) r
 
-abbrev pub hop_back : List Row → (ℕ → Bool) → (ℕ → Port → ℕ) → ℕ → ℕ
-hop_back rows measures laps r = passed rows measures (tf_ns rows) r + turn rows laps r
+abbrev pub hop_back : List Row → (ℕ → Bool) → (ℕ → Port → ℕ) → Above → ℕ → ℕ
+hop_back rows measures laps a r = passed rows measures (tf_ns rows) r + turn rows laps r
 
--- P, the sum of the doubled hops from the first measuring slave down, is `ahead` less `back`, which are summed by themselves
--- over at most so many hops, and 0 at the first measuring slave
-abbrev pub ahead_by : List Row → (ℕ → Bool) → (ℕ → Port → ℕ) → ℕ → (ℕ → ℕ) → Option Above → ℕ
-ahead_by rows measures laps r higher None = 0
-ahead_by rows measures laps r higher (Some a) = higher a.row + hop_ahead rows measures laps a r
+-- the sum of a number of each hop, from the first measuring slave down to a slave, over at most so many hops; 0 at the first one
+abbrev pub summed_from : (Above → ℕ → ℕ) → ℕ → (ℕ → ℕ) → Option Above → ℕ
+summed_from number r higher None = 0
+summed_from number r higher (Some a) = higher a.row + number a r
 
-unfoldable pub ahead_within : List Row → (ℕ → Bool) → (ℕ → Port → ℕ) → ℕ → ℕ → ℕ
-ahead_within rows measures laps zero r = 0
-ahead_within rows measures laps (suc hops) r =
-    ahead_by rows measures laps r (ahead_within rows measures laps hops) (measuring_parent rows measures r)
+unfoldable pub summed_within : List Row → (ℕ → Bool) → (Above → ℕ → ℕ) → ℕ → ℕ → ℕ
+summed_within rows measures number zero r = 0
+summed_within rows measures number (suc hops) r =
+    summed_from number r (summed_within rows measures number hops) (measuring_parent rows measures r)
 
+abbrev pub summed : List Row → (ℕ → Bool) → (Above → ℕ → ℕ) → ℕ → ℕ
+summed rows measures number r = summed_within rows measures number (length rows) r
+
+-- P, the sum of the doubled hops, is `ahead` less `back`
 abbrev pub ahead : List Row → (ℕ → Bool) → (ℕ → Port → ℕ) → ℕ → ℕ
-ahead rows measures laps r = ahead_within rows measures laps (length rows) r
-
-abbrev pub back_by : List Row → (ℕ → Bool) → (ℕ → Port → ℕ) → ℕ → (ℕ → ℕ) → Option Above → ℕ
-back_by rows measures laps r higher None = 0
-back_by rows measures laps r higher (Some a) = higher a.row + hop_back rows measures laps r
-
-unfoldable pub back_within : List Row → (ℕ → Bool) → (ℕ → Port → ℕ) → ℕ → ℕ → ℕ
-back_within rows measures laps zero r = 0
-back_within rows measures laps (suc hops) r =
-    back_by rows measures laps r (back_within rows measures laps hops) (measuring_parent rows measures r)
+ahead rows measures laps r = summed rows measures (hop_ahead rows measures laps) r
 
 abbrev pub back : List Row → (ℕ → Bool) → (ℕ → Port → ℕ) → ℕ → ℕ
-back rows measures laps r = back_within rows measures laps (length rows) r
+back rows measures laps r = summed rows measures (hop_back rows measures laps) r
 
 -- half of P less that of the reference, rounded down, and 0 where it is negative
 abbrev pub delay_from : List Row → (ℕ → Bool) → (ℕ → Port → ℕ) → Option ℕ → ℕ → ℕ

@@ -45,7 +45,7 @@ fn hop(slaves: &[Slave], above: Above, position: u16) -> Sums
     requires above { above.row < length slaves.now }
     requires within { position < length slaves.now }
     ensures ahead { result.ahead ≡ hop_ahead (table_rows slaves.now) (table_measures slaves.now) (table_laps slaves.now) above position }
-    ensures back { result.back ≡ hop_back (table_rows slaves.now) (table_measures slaves.now) (table_laps slaves.now) position }
+    ensures back { result.back ≡ hop_back (table_rows slaves.now) (table_measures slaves.now) (table_laps slaves.now) above position }
     ensures few { (result.ahead ≤ 2 ^ 34) × (result.back ≤ 2 ^ 34) }
 {
     let before = previous(slaves, above.row, above.port);

@@ -1,8 +1,9 @@
 use Rattle.std.proofs.Common.{rules, ◌≡◌, ◌<◌, ◌≤◌, length, arith, sym, ◌∙◌}
 use Rattle.std.specs.Prelude.{None}
 use Rattle.std.proofs.lemmas.Bool.Decides.{nat_tests}
+use Rattle.dc_delay.specs.MeasuredDelay.{hop_ahead, hop_back}
 use Rattle.dc_delay.specs.Table.{table_laps, table_measures, table_rows}
-use Rattle.dc_delay.proofs.Climbing.{ahead_top, ahead_higher, ahead_end, back_top, back_higher, back_end}
+use Rattle.dc_delay.proofs.Climbing.{summed_top, summed_higher, summed_end}
 use Rattle.dc_delay.proofs.ways.way.Goals as goal
 
 pub returns-in_default-clause-ahead : goal.returns-in_default-clause-ahead
@@ -10,7 +11,7 @@ returns-in_default-clause-ahead c =
     let ss = c.args.slaves.now in
     let turn : c.loop.counter < length c.args.slaves.now = grind (arith, nat_tests) in
     let gone : c.measuring_parent.result ≡ None = search rules in
-    let rest = ahead_top (table_rows ss) (table_measures ss) (table_laps ss) (length ss) c.loop.counter c.loop.here turn (sym c.measuring_parent.ensures.is ∙ gone) in
+    let rest = summed_top (table_rows ss) (table_measures ss) (hop_ahead (table_rows ss) (table_measures ss) (table_laps ss)) (length ss) c.loop.counter c.loop.here turn (sym c.measuring_parent.ensures.is ∙ gone) in
     omega (arith, c.loop.invariant.ahead, rest)
 
 pub returns-in_default-clause-back : goal.returns-in_default-clause-back
@@ -18,7 +19,7 @@ returns-in_default-clause-back c =
     let ss = c.args.slaves.now in
     let turn : c.loop.counter < length c.args.slaves.now = grind (arith, nat_tests) in
     let gone : c.measuring_parent.result ≡ None = search rules in
-    let rest = back_top (table_rows ss) (table_measures ss) (table_laps ss) (length ss) c.loop.counter c.loop.here turn (sym c.measuring_parent.ensures.is ∙ gone) in
+    let rest = summed_top (table_rows ss) (table_measures ss) (hop_back (table_rows ss) (table_measures ss) (table_laps ss)) (length ss) c.loop.counter c.loop.here turn (sym c.measuring_parent.ensures.is ∙ gone) in
     omega (arith, c.loop.invariant.back, rest)
 
 pub loop-preserved : goal.loop-preserved
@@ -27,8 +28,8 @@ loop-preserved c =
     let turn : c.loop.counter < length c.args.slaves.now = grind (arith, nat_tests) in
     let a = c.in-Some.above in
     let up = sym c.measuring_parent.ensures.is ∙ c.in-Some.is in
-    let more_ahead = ahead_higher (table_rows ss) (table_measures ss) (table_laps ss) (length ss) c.loop.counter c.loop.here a turn up in
-    let more_back = back_higher (table_rows ss) (table_measures ss) (table_laps ss) (length ss) c.loop.counter c.loop.here a turn up in
+    let more_ahead = summed_higher (table_rows ss) (table_measures ss) (hop_ahead (table_rows ss) (table_measures ss) (table_laps ss)) (length ss) c.loop.counter c.loop.here a turn up in
+    let more_back = summed_higher (table_rows ss) (table_measures ss) (hop_back (table_rows ss) (table_measures ss) (table_laps ss)) (length ss) c.loop.counter c.loop.here a turn up in
     record {
       table = c.loop.invariant.table;
       here = search rules;
@@ -42,12 +43,12 @@ pub returns-clause-ahead : goal.returns-clause-ahead
 returns-clause-ahead c =
     let ss = c.args.slaves.now in
     let over : length c.args.slaves.now ≤ c.loop.counter = grind (arith, nat_tests) in
-    let rest = ahead_end (table_rows ss) (table_measures ss) (table_laps ss) (length ss) c.loop.counter c.loop.here over in
+    let rest = summed_end (table_rows ss) (table_measures ss) (hop_ahead (table_rows ss) (table_measures ss) (table_laps ss)) (length ss) c.loop.counter c.loop.here over in
     omega (arith, c.loop.invariant.ahead, rest)
 
 pub returns-clause-back : goal.returns-clause-back
 returns-clause-back c =
     let ss = c.args.slaves.now in
     let over : length c.args.slaves.now ≤ c.loop.counter = grind (arith, nat_tests) in
-    let rest = back_end (table_rows ss) (table_measures ss) (table_laps ss) (length ss) c.loop.counter c.loop.here over in
+    let rest = summed_end (table_rows ss) (table_measures ss) (hop_back (table_rows ss) (table_measures ss) (table_laps ss)) (length ss) c.loop.counter c.loop.here over in
     omega (arith, c.loop.invariant.back, rest)
