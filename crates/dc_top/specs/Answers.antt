@@ -1,7 +1,7 @@
 -- What each answer of the top call says of the words, of the bytes that were read, and of those that were written.
-use Rattle.std.specs.Prelude.{◌≡◌, ◌≤◌, ℕ, List, [], length, Option, Some, None, ⊤}
+use Rattle.std.specs.Prelude.{◌≡◌, ◌≤◌, ℕ, List, length, Option, Some, None, ⊤}
 use Rattle.std.specs.Io.KnownBytes.{Appends, Keeps}
-use Rattle.dc_base.specs.Told.{AppendsFront, HasMore}
+use Rattle.dc_base.specs.Told.{AppendsFront, Drained, HasMore}
 use Rattle.dc_show.specs.Shown.{Shows, Refuses}
 use Rattle.segment_file.specs.Segment.{SegmentValue}
 use Rattle.segment_file.specs.Told.{IsSegmentText, IsTold}
@@ -39,95 +39,59 @@ pub record IsChecked (bytes text : List ℕ) : Type 0 where
   pub legal : IsSegmentText bytes segment
   pub line : text ≡ check_text segment
 
--- what an answer of `delays` over the whole input says
-abbrev pub ServedDelays : Outcome → List ℕ → Option (List ℕ) → Option (List ℕ) → Type 0
-ServedDelays Done bytes taken taken' = (text : List ℕ) × (IsTable bytes text × Appends taken taken' text)
-ServedDelays WriteFault bytes taken taken' = (text : List ℕ) × (IsTable bytes text × AppendsFront taken taken' text)
-ServedDelays BadText bytes taken taken' = IsTold bytes error.BadText × Keeps taken taken'
-ServedDelays (BadSegment fault) bytes taken taken' = IsTold bytes (error_of fault) × Keeps taken taken'
-ServedDelays NotYet bytes taken taken' = IsOther bytes × Keeps taken taken'
-ServedDelays NoMemory bytes taken taken' = Keeps taken taken'
-ServedDelays ReadFault bytes taken taken' = ⊥
-ServedDelays TooLong bytes taken taken' = ⊥
-ServedDelays Usage bytes taken taken' = ⊥
-ServedDelays (BadFrame line fault) bytes taken taken' = ⊥
+-- what a refusal of `check` says of the bytes
+abbrev pub RefusedCheck : Outcome → List ℕ → Type 0
+RefusedCheck BadText bytes = IsTold bytes error.BadText
+RefusedCheck (BadSegment fault) bytes = IsTold bytes (error_of fault)
+RefusedCheck o bytes = ⊥
 
--- what an answer of `check` over the whole input says
-abbrev pub ServedCheck : Outcome → List ℕ → Option (List ℕ) → Option (List ℕ) → Type 0
-ServedCheck Done bytes taken taken' = (text : List ℕ) × (IsChecked bytes text × Appends taken taken' text)
-ServedCheck WriteFault bytes taken taken' = (text : List ℕ) × (IsChecked bytes text × AppendsFront taken taken' text)
-ServedCheck BadText bytes taken taken' = IsTold bytes error.BadText × Keeps taken taken'
-ServedCheck (BadSegment fault) bytes taken taken' = IsTold bytes (error_of fault) × Keeps taken taken'
-ServedCheck NoMemory bytes taken taken' = Keeps taken taken'
-ServedCheck NotYet bytes taken taken' = ⊥
-ServedCheck ReadFault bytes taken taken' = ⊥
-ServedCheck TooLong bytes taken taken' = ⊥
-ServedCheck Usage bytes taken taken' = ⊥
-ServedCheck (BadFrame line fault) bytes taken taken' = ⊥
+-- what a refusal of `delays` says of the bytes
+abbrev pub RefusedDelays : Outcome → List ℕ → Type 0
+RefusedDelays NotYet bytes = IsOther bytes
+RefusedDelays o bytes = RefusedCheck o bytes
 
--- what an answer of `show` over the whole input says
-abbrev pub ServedShow : Outcome → List ℕ → Option (List ℕ) → Option (List ℕ) → Type 0
-ServedShow Done bytes taken taken' = (text : List ℕ) × (Shows 1 bytes text × Appends taken taken' text)
-ServedShow WriteFault bytes taken taken' = (text : List ℕ) × (Shows 1 bytes text × AppendsFront taken taken' text)
-ServedShow (BadFrame line fault) bytes taken taken' = Refuses 1 bytes line fault × Keeps taken taken'
-ServedShow NoMemory bytes taken taken' = Keeps taken taken'
-ServedShow BadText bytes taken taken' = ⊥
-ServedShow (BadSegment fault) bytes taken taken' = ⊥
-ServedShow NotYet bytes taken taken' = ⊥
-ServedShow ReadFault bytes taken taken' = ⊥
-ServedShow TooLong bytes taken taken' = ⊥
-ServedShow Usage bytes taken taken' = ⊥
+-- what a refusal of `show` says of the bytes
+abbrev pub RefusedShow : Outcome → List ℕ → Type 0
+RefusedShow (BadFrame line fault) bytes = Refuses 1 bytes line fault
+RefusedShow o bytes = ⊥
 
--- where the source tells its bytes: all were read, and this holds of them
-abbrev pub OverInput : Option (List ℕ) → Option (List ℕ) → (List ℕ → Type 0) → Type 0
-OverInput None left' holds = ⊤
-OverInput (Some bytes) left' holds = (left' ≡ Some []) × (length bytes ≤ input_limit) × holds bytes
+-- What an answer over the whole input says, where `done` is what the command writes of the bytes, and `refused` what each refusal says of
+-- them: Done appends the whole text, WriteFault a front of it, and every other answer keeps what was taken.
+abbrev pub Served : (List ℕ → List ℕ → Type 0) → (Outcome → List ℕ → Type 0) → Outcome → List ℕ → Option (List ℕ) → Option (List ℕ)
+    → Type 0
+Served done refused Done bytes taken taken' = (text : List ℕ) × (done bytes text × Appends taken taken' text)
+Served done refused WriteFault bytes taken taken' = (text : List ℕ) × (done bytes text × AppendsFront taken taken' text)
+Served done refused NoMemory bytes taken taken' = Keeps taken taken'
+Served done refused ReadFault bytes taken taken' = ⊥
+Served done refused TooLong bytes taken taken' = ⊥
+Served done refused Usage bytes taken taken' = ⊥
+Served done refused o bytes taken taken' = refused o bytes × Keeps taken taken'
 
--- the answers of `delays`
-abbrev pub AnsweredDelays : Outcome → Option (List ℕ) → Option (List ℕ) → Option (List ℕ) → Option (List ℕ) → Type 0
-AnsweredDelays Done left left' taken taken' = OverInput left left' (λ bytes. ServedDelays Done bytes taken taken')
-AnsweredDelays WriteFault left left' taken taken' = OverInput left left' (λ bytes. ServedDelays WriteFault bytes taken taken')
-AnsweredDelays BadText left left' taken taken' = OverInput left left' (λ bytes. ServedDelays BadText bytes taken taken') × Keeps taken taken'
-AnsweredDelays (BadSegment fault) left left' taken taken' = OverInput left left' (λ bytes. ServedDelays (BadSegment fault) bytes taken taken') × Keeps taken taken'
-AnsweredDelays NotYet left left' taken taken' = OverInput left left' (λ bytes. ServedDelays NotYet bytes taken taken') × Keeps taken taken'
-AnsweredDelays ReadFault left left' taken taken' = Keeps taken taken'
-AnsweredDelays TooLong left left' taken taken' = HasMore left input_limit × Keeps taken taken'
-AnsweredDelays NoMemory left left' taken taken' = Keeps taken taken'
-AnsweredDelays Usage left left' taken taken' = ⊥
-AnsweredDelays (BadFrame line fault) left left' taken taken' = ⊥
+-- the bytes are the whole input
+abbrev pub IsInput : Option (List ℕ) → Option (List ℕ) → List ℕ → Type 0
+IsInput left left' bytes = Drained left left' bytes × (length bytes ≤ input_limit)
 
--- the answers of `check`
-abbrev pub AnsweredCheck : Outcome → Option (List ℕ) → Option (List ℕ) → Option (List ℕ) → Option (List ℕ) → Type 0
-AnsweredCheck Done left left' taken taken' = OverInput left left' (λ bytes. ServedCheck Done bytes taken taken')
-AnsweredCheck WriteFault left left' taken taken' = OverInput left left' (λ bytes. ServedCheck WriteFault bytes taken taken')
-AnsweredCheck BadText left left' taken taken' = OverInput left left' (λ bytes. ServedCheck BadText bytes taken taken') × Keeps taken taken'
-AnsweredCheck (BadSegment fault) left left' taken taken' = OverInput left left' (λ bytes. ServedCheck (BadSegment fault) bytes taken taken') × Keeps taken taken'
-AnsweredCheck ReadFault left left' taken taken' = Keeps taken taken'
-AnsweredCheck TooLong left left' taken taken' = HasMore left input_limit × Keeps taken taken'
-AnsweredCheck NoMemory left left' taken taken' = Keeps taken taken'
-AnsweredCheck NotYet left left' taken taken' = ⊥
-AnsweredCheck Usage left left' taken taken' = ⊥
-AnsweredCheck (BadFrame line fault) left left' taken taken' = ⊥
+-- what an answer says of an input that could not be read to its end
+abbrev pub Unread : Outcome → Option (List ℕ) → Type 0
+Unread ReadFault left = ⊤
+Unread NoMemory left = ⊤
+Unread TooLong left = HasMore left input_limit
+Unread o left = ⊥
 
--- the answers of `show`
-abbrev pub AnsweredShow : Outcome → Option (List ℕ) → Option (List ℕ) → Option (List ℕ) → Option (List ℕ) → Type 0
-AnsweredShow Done left left' taken taken' = OverInput left left' (λ bytes. ServedShow Done bytes taken taken')
-AnsweredShow WriteFault left left' taken taken' = OverInput left left' (λ bytes. ServedShow WriteFault bytes taken taken')
-AnsweredShow (BadFrame line fault) left left' taken taken' = OverInput left left' (λ bytes. ServedShow (BadFrame line fault) bytes taken taken') × Keeps taken taken'
-AnsweredShow ReadFault left left' taken taken' = Keeps taken taken'
-AnsweredShow TooLong left left' taken taken' = HasMore left input_limit × Keeps taken taken'
-AnsweredShow NoMemory left left' taken taken' = Keeps taken taken'
-AnsweredShow BadText left left' taken taken' = ⊥
-AnsweredShow (BadSegment fault) left left' taken taken' = ⊥
-AnsweredShow NotYet left left' taken taken' = ⊥
-AnsweredShow Usage left left' taken taken' = ⊥
+-- the answers of such a command, over an input that is read to its end, or that could not be
+abbrev pub AnsweredBy : (List ℕ → List ℕ → Type 0) → (Outcome → List ℕ → Type 0) → Outcome → Option (List ℕ) → Option (List ℕ)
+    → Option (List ℕ) → Option (List ℕ) → Type 0
+AnsweredBy done refused ReadFault left left' taken taken' = Keeps taken taken'
+AnsweredBy done refused NoMemory left left' taken taken' = Keeps taken taken'
+AnsweredBy done refused TooLong left left' taken taken' = HasMore left input_limit × Keeps taken taken'
+AnsweredBy done refused o left left' taken taken' = (bytes : List ℕ) × (IsInput left left' bytes × Served done refused o bytes taken taken')
 
 -- the answers to words: Usage to those that are no command, NotYet to the commands that are not built, and then nothing is read
 abbrev pub Answered : Option Task → Outcome → Option (List ℕ) → Option (List ℕ) → Option (List ℕ) → Option (List ℕ) → Type 0
 Answered None o left left' taken taken' = (o ≡ Usage) × Keeps left left' × Keeps taken taken'
-Answered (Some Delays) o left left' taken taken' = AnsweredDelays o left left' taken taken'
-Answered (Some Check) o left left' taken taken' = AnsweredCheck o left left' taken taken'
-Answered (Some Show) o left left' taken taken' = AnsweredShow o left left' taken taken'
+Answered (Some Delays) o left left' taken taken' = AnsweredBy IsTable RefusedDelays o left left' taken taken'
+Answered (Some Check) o left left' taken taken' = AnsweredBy IsChecked RefusedCheck o left left' taken taken'
+Answered (Some Show) o left left' taken taken' = AnsweredBy (Shows 1) RefusedShow o left left' taken taken'
 Answered (Some task) o left left' taken taken' = (o ≡ NotYet) × Keeps left left' × Keeps taken taken'
 
 -- the commands that read an input

@@ -4,7 +4,8 @@ use std::fmt;
 /// Why an input is no legal segment file: the first check that it fails, in this order.
 #[derive(Clone, Copy, Debug, PartialEq, Eq)]
 pub enum SegFault {
-    /// The value at this path is missing, of a wrong type or out of its range, or has a key that is not known.
+    /// The value at this path is missing, of a wrong type or out of its range, stands at a key that does not belong there, or has a key that
+    /// is not known.
     Shape(KeyPath),
     /// The id of the first row whose id an earlier row has.
     Twice(Id),
@@ -21,7 +22,7 @@ pub enum SegFault {
     TooSlow,
     /// The clocks need not come together.
     NoLock,
-    /// A start may lie too far ahead for a 32-bit clock.
+    /// A start may lie too far ahead for a 32-bit clock, whatever the kinds of the clocks.
     Lead,
     /// More drift frames than `loss_run` are lost in a row, the first time from this one on.
     LossRun(u32),

@@ -1,9 +1,9 @@
 // The segment of an input.
 ghost use Rattle.std.specs.Prelude.{◌≡◌, IfErr, IfOk};
 ghost use Rattle.segment_file.specs.Told.{IsSegmentText, IsTold};
-ghost use Rattle.dc_top.specs.SegFaults.{refusal_error};
+ghost use Rattle.dc_top.specs.SegFaults.{outcome_of, refusal_error};
 
-use crate::SegFault;
+use crate::{Outcome, SegFault};
 use segment_file::{SegError, Segment, read_segment};
 use std::alloc::Global;
 
@@ -32,6 +32,17 @@ fn refused(error: SegError) -> Refusal
         SegError::LossRun(number) => Refusal::BadSegment(SegFault::LossRun(number)),
         SegError::TooMuch => Refusal::BadSegment(SegFault::TooMuch),
         SegError::NoMemory => Refusal::NoMemory,
+    }
+}
+
+/// The answer to an input that gives no segment.
+pub(crate) fn outcome_of(refusal: Refusal) -> Outcome
+    ensures { result ≡ outcome_of refusal }
+{
+    match refusal {
+        Refusal::BadText => Outcome::BadText,
+        Refusal::BadSegment(fault) => Outcome::BadSegment(fault),
+        Refusal::NoMemory => Outcome::NoMemory,
     }
 }
 

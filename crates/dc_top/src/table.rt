@@ -1,5 +1,5 @@
 // The delay table.
-ghost use Rattle.std.specs.Prelude.{◌≡◌, ◌≤◌, ◌<◌, ◌++◌, length, drop, map, string_bytes, OnOk, IfOk};
+ghost use Rattle.std.specs.Prelude.{◌≡◌, ◌≤◌, ◌<◌, ◌++◌, length, map, string_bytes, OnOk, IfOk};
 ghost use Rattle.dc_top.specs.Table.{slaves_of, wire_of, gap_of, bound_of, kind_of, row_text, rows_text, head_text, frames_text, table_text};
 ghost use Rattle.dc_top.specs.Seen.{line_row_seen, line_seen};
 

@@ -1,9 +1,10 @@
 // The top call.
-ghost use Rattle.std.specs.Prelude.{◌≡◌, ◌≢◌, ◌<◌, ◌≤◌, ◌↔◌, map, length, string_bytes, IsTrue, IfOk};
+ghost use Rattle.std.specs.Prelude.{◌≡◌, ◌<◌, ◌≤◌, ◌↔◌, map, length, string_bytes, Err, IfOk, IfErr};
 ghost use Rattle.dc_base.specs.Causes.{Rose};
 ghost use Rattle.dc_top.specs.declared.outcome.Outcome.TheVariants.{ReadFault, WriteFault, TooLong};
-ghost use Rattle.dc_top.specs.Answers.{HasInput, ServedCheck, ServedDelays, ServedShow, AnsweredCheck, AnsweredDelays, AnsweredShow, Answered, input_limit};
+ghost use Rattle.dc_top.specs.Answers.{IsTable, IsChecked, RefusedCheck, RefusedDelays, RefusedShow, Served, IsInput, Unread, AnsweredBy, Answered, HasInput, input_limit};
 ghost use Rattle.dc_base.specs.Told.{Gave};
+ghost use Rattle.dc_show.specs.Shown.{Shows};
 ghost use Rattle.dc_top.specs.Seen.{line_seen};
 ghost use Rattle.dc_top.specs.Table.{IsTableOf};
 ghost use Rattle.dc_top.specs.Words.{task_of};
@@ -12,7 +13,7 @@ use crate::Outcome;
 use crate::check::check_line;
 use crate::commission::commission;
 use crate::line_file::{LineFile, line_of};
-use crate::segment_input::{Refusal, segment_in};
+use crate::segment_input::{outcome_of, segment_in};
 use crate::table::table;
 use crate::words::{Task, task_of};
 use dc_base::{NoMemory, ReadAllError, Sink, Source, read_all, write_whole};
@@ -51,58 +52,69 @@ pub fn dc_main<I: Source, O: Sink>(
     }
 }
 
+// The whole input, or the answer where it cannot be read to its end.
+fn read_input<I: Source>(alloc: Global, input: &mut I) -> Result<Vec<u8>, Outcome>
+    ensures whole { IfOk result (λ bytes. IsInput (I.left input.old) (I.left input.new) bytes.items) }
+    ensures unread { IfErr result (λ o. Unread o (I.left input.old)) }
+    ensures too_long { Gave (I.left input.old) (I.left input.new)
+        (λ bytes. (result ≡ Err TooLong) ↔ (input_limit < length bytes)) }
+    ensures read_fault { result ≡ Err ReadFault → Rose (I.faults input.old) (I.faults input.new) }
+{
+    match read_all(alloc, input, INPUT_LIMIT) {
+        Ok(bytes) => Ok(bytes),
+        Err(ReadAllError::ReadFault) => Err(Outcome::ReadFault),
+        Err(ReadAllError::TooLong) => Err(Outcome::TooLong),
+        Err(ReadAllError::NoMemory) => Err(Outcome::NoMemory),
+    }
+}
+
 // The command `check`.
 fn check<I: Source, O: Sink>(alloc: Global, input: &mut I, output: &mut O) -> Outcome
-    ensures answered { AnsweredCheck result (I.left input.old) (I.left input.new) (O.taken output.old) (O.taken output.new) }
+    ensures answered { AnsweredBy IsChecked RefusedCheck result (I.left input.old) (I.left input.new)
+        (O.taken output.old) (O.taken output.new) }
     ensures too_long { Gave (I.left input.old) (I.left input.new) (λ bytes. (result ≡ TooLong) ↔ (input_limit < length bytes)) }
     ensures read_fault { result ≡ ReadFault → Rose (I.faults input.old) (I.faults input.new) }
     ensures write_fault { result ≡ WriteFault → Rose (O.faults output.old) (O.faults output.new) }
 {
-    match read_all(alloc, input, INPUT_LIMIT) {
+    match read_input(alloc, input) {
         Ok(bytes) => serve_check(alloc, &bytes, output),
-        Err(ReadAllError::ReadFault) => Outcome::ReadFault,
-        Err(ReadAllError::TooLong) => Outcome::TooLong,
-        Err(ReadAllError::NoMemory) => Outcome::NoMemory,
+        Err(outcome) => outcome,
     }
 }
 
 // The command `delays`.
 fn delays<I: Source, O: Sink>(alloc: Global, input: &mut I, output: &mut O) -> Outcome
-    ensures answered { AnsweredDelays result (I.left input.old) (I.left input.new) (O.taken output.old) (O.taken output.new) }
+    ensures answered { AnsweredBy IsTable RefusedDelays result (I.left input.old) (I.left input.new)
+        (O.taken output.old) (O.taken output.new) }
     ensures too_long { Gave (I.left input.old) (I.left input.new) (λ bytes. (result ≡ TooLong) ↔ (input_limit < length bytes)) }
     ensures read_fault { result ≡ ReadFault → Rose (I.faults input.old) (I.faults input.new) }
     ensures write_fault { result ≡ WriteFault → Rose (O.faults output.old) (O.faults output.new) }
 {
-    match read_all(alloc, input, INPUT_LIMIT) {
+    match read_input(alloc, input) {
         Ok(bytes) => serve_delays(alloc, &bytes, output),
-        Err(ReadAllError::ReadFault) => Outcome::ReadFault,
-        Err(ReadAllError::TooLong) => Outcome::TooLong,
-        Err(ReadAllError::NoMemory) => Outcome::NoMemory,
+        Err(outcome) => outcome,
     }
 }
 
 // The command `show`.
 fn show<I: Source, O: Sink>(alloc: Global, input: &mut I, output: &mut O) -> Outcome
-    ensures answered { AnsweredShow result (I.left input.old) (I.left input.new) (O.taken output.old) (O.taken output.new) }
+    ensures answered { AnsweredBy (Shows 1) RefusedShow result (I.left input.old) (I.left input.new)
+        (O.taken output.old) (O.taken output.new) }
     ensures too_long { Gave (I.left input.old) (I.left input.new) (λ bytes. (result ≡ TooLong) ↔ (input_limit < length bytes)) }
     ensures read_fault { result ≡ ReadFault → Rose (I.faults input.old) (I.faults input.new) }
     ensures write_fault { result ≡ WriteFault → Rose (O.faults output.old) (O.faults output.new) }
 {
-    match read_all(alloc, input, INPUT_LIMIT) {
+    match read_input(alloc, input) {
         Ok(bytes) => serve_show(alloc, &bytes, output),
-        Err(ReadAllError::ReadFault) => Outcome::ReadFault,
-        Err(ReadAllError::TooLong) => Outcome::TooLong,
-        Err(ReadAllError::NoMemory) => Outcome::NoMemory,
+        Err(outcome) => outcome,
     }
 }
 
 // The answer of `show` to a whole input.
 fn serve_show<O: Sink>(alloc: Global, bytes: &[u8], output: &mut O) -> Outcome
-    requires { length bytes.now ≤ 16777216 }
-    ensures served { ServedShow result bytes.now (O.taken output.old) (O.taken output.new) }
+    requires { length bytes.now ≤ input_limit }
+    ensures served { Served (Shows 1) RefusedShow result bytes.now (O.taken output.old) (O.taken output.new) }
     ensures fault { result ≡ WriteFault → Rose (O.faults output.old) (O.faults output.new) }
-    ensures read { result ≢ ReadFault }
-    ensures whole { result ≢ TooLong }
 {
     let text = match dc_show::show(alloc, bytes) {
         Ok(text) => text,
@@ -117,15 +129,12 @@ fn serve_show<O: Sink>(alloc: Global, bytes: &[u8], output: &mut O) -> Outcome
 
 // The answer of `check` to a whole input.
 fn serve_check<O: Sink>(alloc: Global, bytes: &[u8], output: &mut O) -> Outcome
-    ensures served { ServedCheck result bytes.now (O.taken output.old) (O.taken output.new) }
+    ensures served { Served IsChecked RefusedCheck result bytes.now (O.taken output.old) (O.taken output.new) }
     ensures fault { result ≡ WriteFault → Rose (O.faults output.old) (O.faults output.new) }
-    ensures whole { result ≢ TooLong }
 {
     let segment = match segment_in(alloc, bytes) {
         Ok(segment) => segment,
-        Err(Refusal::BadText) => return Outcome::BadText,
-        Err(Refusal::BadSegment(fault)) => return Outcome::BadSegment(fault),
-        Err(Refusal::NoMemory) => return Outcome::NoMemory,
+        Err(refusal) => return outcome_of(refusal),
     };
     let Ok(line) = check_line(alloc, &segment) else {
         return Outcome::NoMemory;
@@ -138,15 +147,12 @@ fn serve_check<O: Sink>(alloc: Global, bytes: &[u8], output: &mut O) -> Outcome
 
 // The answer of `delays` to a whole input.
 fn serve_delays<O: Sink>(alloc: Global, bytes: &[u8], output: &mut O) -> Outcome
-    ensures served { ServedDelays result bytes.now (O.taken output.old) (O.taken output.new) }
+    ensures served { Served IsTable RefusedDelays result bytes.now (O.taken output.old) (O.taken output.new) }
     ensures fault { result ≡ WriteFault → Rose (O.faults output.old) (O.faults output.new) }
-    ensures whole { result ≢ TooLong }
 {
     let segment = match segment_in(alloc, bytes) {
         Ok(segment) => segment,
-        Err(Refusal::BadText) => return Outcome::BadText,
-        Err(Refusal::BadSegment(fault)) => return Outcome::BadSegment(fault),
-        Err(Refusal::NoMemory) => return Outcome::NoMemory,
+        Err(refusal) => return outcome_of(refusal),
     };
     let file = match line_of(alloc, &segment) {
         Ok(Some(file)) => file,
