@@ -2,20 +2,17 @@
 use Rattle.std.proofs.Common.{◌≡◌, ◌∙◌, sym, ap, ℕ, suc, ◌+◌, ◌<◌, ◌≤◌, Bool, true, false, List, [], ◌∷◌, ◌++◌, length, Option, Some, None, refl, arith, append_assoc, append-nil, zero-add, add-zero, String, Global, string_bytes, map, drop, get_or, set, take}
 use Rattle.std.specs.Option.{option_map, option_and_then}
 use Rattle.std.proofs.lemmas.List.{length-append, length-map, length-take, drop_more, drop_all, take_more_set, map-append}
-use Rattle.dc_top.specs.Words.{Sorted, with_plain, with_flag, kind_of, taken, sorted, made, task_of}
-use Rattle.dc_top.specs.declared.words.Kind.{Kind}
-use Rattle.dc_top.specs.declared.words.Kind.TheVariants.{Plain, Dashes, Flag, Refused}
-use Rattle.dc_top.specs.declared.words.Task.{Task}
+use Rattle.dc_top.specs.Words.{Sorted, with_plain, with_flag, kind_of, taken, sorted, made, command_of, Command, WordKind, Plain, Dashes, Flag, Refused}
 
 -- the command of words of which these plain ones and so many flags were taken
-abbrev pub with_front : List (List ℕ) → ℕ → Option Sorted → Option Task
+abbrev pub with_front : List (List ℕ) → ℕ → Option Sorted → Option Command
 with_front ps k None = None
 with_front ps k (Some s) = made (ps ++ s.plain) (k + s.flags)
 
-abbrev pub completed : Bool → List (List ℕ) → ℕ → List (List ℕ) → Option Task
+abbrev pub completed : Bool → List (List ℕ) → ℕ → List (List ℕ) → Option Command
 completed behind ps k ws = with_front ps k (sorted behind ws)
 
-pub completed_start : (ws : List (List ℕ)) → completed false [] 0 ws ≡ task_of ws
+pub completed_start : (ws : List (List ℕ)) → completed false [] 0 ws ≡ command_of ws
 completed_start ws = none_taken (sorted false ws)
   where
     none_taken : (o : Option Sorted) → with_front [] 0 o ≡ option_and_then (λ s. made s.plain s.flags) o
@@ -37,9 +34,9 @@ flag_taken ps k (Some s) = ap (λ n. made (ps ++ s.plain) n) (moved k s.flags)
     moved : (a b : ℕ) → a + (b + 1) ≡ a + 1 + b
     moved a b = omega arith
 
-taken_as : (b : Bool) (w : List ℕ) (ws ps : List (List ℕ)) (k : ℕ) (a : Kind) → kind_of b w ≡ a → completed b ps k (w ∷ ws) ≡ with_front ps k (taken a w (sorted true ws) (sorted b ws))
+taken_as : (b : Bool) (w : List ℕ) (ws ps : List (List ℕ)) (k : ℕ) (a : WordKind) → kind_of b w ≡ a → completed b ps k (w ∷ ws) ≡ with_front ps k (taken a w (sorted true ws) (sorted b ws))
 unfolding sorted
-taken_as b w ws ps k a e = ap (λ (a : Kind). with_front ps k (taken a w (sorted true ws) (sorted b ws))) e
+taken_as b w ws ps k a e = ap (λ (a : WordKind). with_front ps k (taken a w (sorted true ws) (sorted b ws))) e
 
 pub plain : (b : Bool) (w : List ℕ) (ws ps : List (List ℕ)) (k : ℕ) → kind_of b w ≡ Plain → completed b ps k (w ∷ ws) ≡ completed b (ps ++ w ∷ []) k ws
 plain b w ws ps k e = taken_as b w ws ps k Plain e ∙ plain_taken w ps k (sorted b ws)

@@ -10,8 +10,7 @@ use Rattle.dc_top.specs.CheckText.{check_text}
 use Rattle.dc_top.specs.LineFile.{LineValue, line_of}
 use Rattle.dc_top.specs.SegFaults.{error_of}
 use Rattle.dc_top.specs.Table.{IsTableOf}
-use Rattle.dc_top.specs.declared.words.Task.{Task}
-use Rattle.dc_top.specs.declared.words.Task.TheVariants.{Check, Delays, Show}
+use Rattle.dc_top.specs.Words.{Command, Check, Delays, Show}
 use Rattle.dc_top.specs.declared.outcome.Outcome.{Outcome}
 use Rattle.dc_top.specs.declared.outcome.Outcome.TheVariants.{Done, Usage, BadText, BadSegment, BadFrame, ReadFault, WriteFault, NoMemory, TooLong, NotYet}
 
@@ -87,16 +86,16 @@ AnsweredBy done refused TooLong left left' taken taken' = HasMore left input_lim
 AnsweredBy done refused o left left' taken taken' = (bytes : List ℕ) × (IsInput left left' bytes × Served done refused o bytes taken taken')
 
 -- the answers to words: Usage to those that are no command, NotYet to the commands that are not built, and then nothing is read
-abbrev pub Answered : Option Task → Outcome → Option (List ℕ) → Option (List ℕ) → Option (List ℕ) → Option (List ℕ) → Type 0
+abbrev pub Answered : Option Command → Outcome → Option (List ℕ) → Option (List ℕ) → Option (List ℕ) → Option (List ℕ) → Type 0
 Answered None o left left' taken taken' = (o ≡ Usage) × Keeps left left' × Keeps taken taken'
 Answered (Some Delays) o left left' taken taken' = AnsweredBy IsTable RefusedDelays o left left' taken taken'
 Answered (Some Check) o left left' taken taken' = AnsweredBy IsChecked RefusedCheck o left left' taken taken'
 Answered (Some Show) o left left' taken taken' = AnsweredBy (Shows 1) RefusedShow o left left' taken taken'
-Answered (Some task) o left left' taken taken' = (o ≡ NotYet) × Keeps left left' × Keeps taken taken'
+Answered (Some command) o left left' taken taken' = (o ≡ NotYet) × Keeps left left' × Keeps taken taken'
 
 -- the commands that read an input
-abbrev pub HasInput : Option Task → Type 0
+abbrev pub HasInput : Option Command → Type 0
 HasInput (Some Delays) = ⊤
 HasInput (Some Check) = ⊤
 HasInput (Some Show) = ⊤
-HasInput task = ⊥
+HasInput command = ⊥

@@ -1,9 +1,9 @@
+pub mod Words
 pub mod LineFile
-pub mod Seen
 pub mod Table
 pub mod LineDelays
 pub mod CheckText
 pub mod SegFaults
+pub mod Seen
 pub mod Outcomes
 pub mod Answers
-pub mod Words

@@ -6,10 +6,6 @@ use Rattle.segment_file.specs.declared.seg_error.SegError.{SegError}
 use Rattle.segment_file.specs.declared.seg_error.SegError.TheVariants as error
 use Rattle.dc_top.specs.declared.seg_fault.SegFault.{SegFault}
 use Rattle.dc_top.specs.declared.seg_fault.SegFault.TheVariants.{Shape, Twice, Tree, Rate, NoReference, Unmeasurable, TooSlow, NoLock, Lead, LossRun, TooMuch}
-use Rattle.dc_top.specs.declared.outcome.Outcome.{Outcome}
-use Rattle.dc_top.specs.declared.outcome.Outcome.TheVariants as outcome
-use Rattle.dc_top.specs.declared.segment_input.Refusal.{Refusal}
-use Rattle.dc_top.specs.declared.segment_input.Refusal.TheVariants as refusal
 
 -- the check that a file fails
 abbrev pub error_of : SegFault → SegError
@@ -24,18 +20,6 @@ error_of NoLock = error.NoLock
 error_of Lead = error.Lead
 error_of (LossRun number) = error.LossRun number
 error_of TooMuch = error.TooMuch
-
--- the same of an input, which may be no JSON text
-abbrev pub refusal_error : Refusal → SegError
-refusal_error refusal.BadText = error.BadText
-refusal_error (refusal.BadSegment fault) = error_of fault
-refusal_error refusal.NoMemory = error.NoMemory
-
--- the answer to such an input
-abbrev pub outcome_of : Refusal → Outcome
-outcome_of refusal.BadText = outcome.BadText
-outcome_of (refusal.BadSegment fault) = outcome.BadSegment fault
-outcome_of refusal.NoMemory = outcome.NoMemory
 
 abbrev pub tree_text : ShapeTree → List ℕ
 tree_text tree.Empty = codes "tree empty"

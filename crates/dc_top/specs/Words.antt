@@ -2,10 +2,29 @@
 use Rattle.std.specs.Prelude.{ℕ, zero, suc, ◌+◌, ◌-◌, ◌^◌, ◌&&◌, ◌||◌, ◌==◌, nat_le, not, Bool, true, false, List, [], ◌∷◌, length, codes, Option, Some, None, option_and_then, option_map, slice_index, if◌then◌else◌}
 use Rattle.std.specs.Str.{bytes_eq, all_ascii_digits}
 use Rattle.std.specs.Str.Parse.{digits_value}
-use Rattle.dc_top.specs.declared.words.Kind.{Kind}
-use Rattle.dc_top.specs.declared.words.Kind.TheVariants.{Plain, Dashes, Flag, Refused}
-use Rattle.dc_top.specs.declared.words.Task.{Task}
-use Rattle.dc_top.specs.declared.words.Task.TheVariants.{Run, Delays, Check, Show, Gen, Drill, Migrate, Trace, Audit, Again, Latch, Rate}
+
+-- What the words ask for: `run` with the edge rows or without; `gen` and `drill` with a number of slaves and a seed; `latch` with the
+-- position of a slave and the true time of an event (fs).
+pub data Command : Type 0 where
+  Run : (edges : Bool) → Command
+  Delays : Command
+  Check : Command
+  Show : Command
+  Gen : (slaves seed : ℕ) → Command
+  Drill : (slaves seed : ℕ) → Command
+  Migrate : Command
+  Trace : Command
+  Audit : Command
+  Again : Command
+  Latch : (position time_fs : ℕ) → Command
+  Rate : Command
+
+-- what a word is: part of a command, the first `--`, the flag, or none that a command can have
+pub data WordKind : Type 0 where
+  Plain : WordKind
+  Dashes : WordKind
+  Flag : WordKind
+  Refused : WordKind
 
 -- the plain words, and how many times the flag stands among them
 pub record Sorted : Type 0 where
@@ -23,7 +42,7 @@ begins_with_dash word = nat_le 2 (length word) && slice_index word 0 == 45
 
 -- What a word is: behind the first `--` every word is plain, and so are the empty word and the dash; `--edges` is the flag, and other words
 -- that begin with a dash are refused.
-unfoldable pub kind_of : Bool → List ℕ → Kind
+unfoldable pub kind_of : Bool → List ℕ → WordKind
 kind_of true word = Plain
 kind_of false word =
     if bytes_eq word (codes "--") then Dashes
@@ -32,7 +51,7 @@ kind_of false word =
     else Plain
 
 -- a word of a kind, before those that follow it, which are sorted as behind `--` or as before
-abbrev pub taken : Kind → List ℕ → Option Sorted → Option Sorted → Option Sorted
+abbrev pub taken : WordKind → List ℕ → Option Sorted → Option Sorted → Option Sorted
 taken Plain w behind next = option_map (with_plain w) next
 taken Dashes w behind next = behind
 taken Flag w behind next = option_map with_flag next
@@ -56,13 +75,13 @@ number_in low high text =
     if is_numeral text && nat_le low (digits_value 10 text) && nat_le (digits_value 10 text) high then Some (digits_value 10 text) else None
 
 -- two numbers
-abbrev pub both : (ℕ → ℕ → Task) → Option ℕ → Option ℕ → Option Task
+abbrev pub both : (ℕ → ℕ → Command) → Option ℕ → Option ℕ → Option Command
 both make (Some a) (Some b) = Some (make a b)
 both make (Some a) None = None
 both make None b = None
 
 -- a command of one word
-unfoldable pub single : List ℕ → Option Task
+unfoldable pub single : List ℕ → Option Command
 single w =
     if bytes_eq w (codes "delays") then Some Delays
     else if bytes_eq w (codes "check") then Some Check
@@ -75,7 +94,7 @@ single w =
     else None
 
 -- a command with two numbers
-unfoldable pub double : List ℕ → List ℕ → List ℕ → Option Task
+unfoldable pub double : List ℕ → List ℕ → List ℕ → Option Command
 double w a b =
     if bytes_eq w (codes "gen") then both Gen (number_in 1 256 a) (number_in 0 (2 ^ 64 - 1) b)
     else if bytes_eq w (codes "drill") then both Drill (number_in 1 256 a) (number_in 0 (2 ^ 64 - 1) b)
@@ -83,12 +102,12 @@ double w a b =
     else None
 
 -- a command of plain words; `--edges` stands with `run` alone, at most once
-unfoldable pub made : List (List ℕ) → ℕ → Option Task
+unfoldable pub made : List (List ℕ) → ℕ → Option Command
 made (w ∷ []) zero = if bytes_eq w (codes "run") then Some (Run false) else single w
 made (w ∷ []) (suc zero) = if bytes_eq w (codes "run") then Some (Run true) else None
 made (w ∷ a ∷ b ∷ []) zero = double w a b
 made _ _ = None
 
 -- the command of the words, where they have one
-abbrev pub task_of : List (List ℕ) → Option Task
-task_of words = option_and_then (λ s. made s.plain s.flags) (sorted false words)
+abbrev pub command_of : List (List ℕ) → Option Command
+command_of words = option_and_then (λ s. made s.plain s.flags) (sorted false words)

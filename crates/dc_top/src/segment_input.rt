@@ -1,7 +1,7 @@
 // The segment of an input.
 ghost use Rattle.std.specs.Prelude.{◌≡◌, IfErr, IfOk};
 ghost use Rattle.segment_file.specs.Told.{IsSegmentText, IsTold};
-ghost use Rattle.dc_top.specs.SegFaults.{outcome_of, refusal_error};
+ghost use Rattle.dc_top.specs.Seen.{outcome_of, refusal_error};
 
 use crate::{Outcome, SegFault};
 use segment_file::{SegError, Segment, read_segment};

@@ -7,7 +7,7 @@ ghost use Rattle.dc_base.specs.Told.{Gave};
 ghost use Rattle.dc_show.specs.Shown.{Shows};
 ghost use Rattle.dc_top.specs.Seen.{line_seen};
 ghost use Rattle.dc_top.specs.Table.{IsTableOf};
-ghost use Rattle.dc_top.specs.Words.{task_of};
+ghost use Rattle.dc_top.specs.Words.{command_of};
 
 use crate::Outcome;
 use crate::check::check_line;
@@ -36,9 +36,9 @@ pub fn dc_main<I: Source, O: Sink>(
     input: &mut I,
     output: &mut O,
 ) -> Outcome
-    ensures answered { Answered (task_of (map string_bytes words.now)) result (I.left input.old) (I.left input.new)
+    ensures answered { Answered (command_of (map string_bytes words.now)) result (I.left input.old) (I.left input.new)
         (O.taken output.old) (O.taken output.new) }
-    ensures too_long { HasInput (task_of (map string_bytes words.now)) → Gave (I.left input.old) (I.left input.new)
+    ensures too_long { HasInput (command_of (map string_bytes words.now)) → Gave (I.left input.old) (I.left input.new)
         (λ bytes. (result ≡ TooLong) ↔ (input_limit < length bytes)) }
     ensures read_fault { result ≡ ReadFault → Rose (I.faults input.old) (I.faults input.new) }
     ensures write_fault { result ≡ WriteFault → Rose (O.faults output.old) (O.faults output.new) }

@@ -1,7 +1,8 @@
 // The words of the command line.
-ghost use Rattle.std.specs.Prelude.{◌≡◌, map, string_bytes, if◌then◌else◌};
+ghost use Rattle.std.specs.Prelude.{◌≡◌, map, option_map, string_bytes, if◌then◌else◌};
 ghost use Rattle.std.specs.Str.{all_ascii_digits};
-ghost use Rattle.dc_top.specs.Words.{begins_with_dash, kind_of, has_no_leading_zero, is_numeral, number_in, single, double, made, task_of};
+ghost use Rattle.dc_top.specs.Seen.{command_seen, kind_seen};
+ghost use Rattle.dc_top.specs.Words.{begins_with_dash, kind_of, has_no_leading_zero, is_numeral, number_in, single, double, made, command_of};
 
 /// What the words ask for.
 #[derive(Clone, Copy, Debug, PartialEq, Eq)]
@@ -35,7 +36,7 @@ enum Kind {
 
 #[tactic(auto, unfolding(crate::specs::Words::kind_of))]
 fn kind_of(word: &str, is_behind: bool) -> Kind
-    ensures { result ≡ kind_of is_behind word.now }
+    ensures { kind_seen result ≡ kind_of is_behind word.now }
 {
     if is_behind {
         return Kind::Plain;
@@ -95,7 +96,7 @@ fn number_in(text: &str, low: u64, high: u64) -> Option<u64>
 
 #[tactic(auto, unfolding(crate::specs::Words::single))]
 fn single(word: &str) -> Option<Task>
-    ensures { result ≡ single word.now }
+    ensures { option_map command_seen result ≡ single word.now }
 {
     match word {
         "delays" => Some(Task::Delays),
@@ -112,7 +113,7 @@ fn single(word: &str) -> Option<Task>
 
 #[tactic(auto, unfolding(crate::specs::Words::double))]
 fn double(word: &str, first: &str, second: &str) -> Option<Task>
-    ensures { result ≡ double word.now first.now second.now }
+    ensures { option_map command_seen result ≡ double word.now first.now second.now }
 {
     match word {
         "gen" => {
@@ -137,7 +138,7 @@ fn double(word: &str, first: &str, second: &str) -> Option<Task>
 // The command of these plain words, with `--edges` or without.
 #[tactic(auto, unfolding(crate::specs::Words::made))]
 fn made(plain: &[&str], edges: bool) -> Option<Task>
-    ensures { result ≡ made (map (λ w. w.now) plain.now) (if edges then 1 else 0) }
+    ensures { option_map command_seen result ≡ made (map (λ w. w.now) plain.now) (if edges then 1 else 0) }
 {
     match plain {
         [word] if *word == "run" => Some(Task::Run(edges)),
@@ -149,7 +150,7 @@ fn made(plain: &[&str], edges: bool) -> Option<Task>
 
 /// The command of the words, where they have one.
 pub(crate) fn task_of(words: &[String]) -> Option<Task>
-    ensures { result ≡ task_of (map string_bytes words.now) }
+    ensures { option_map command_seen result ≡ command_of (map string_bytes words.now) }
 {
     let mut plain = [""; 3];
     let mut count = 0;
