@@ -10,7 +10,7 @@ use Rattle.wrap_time.specs.WordDifference.{signed_of, word_difference}
 use Rattle.wrap_time.specs.NearNumbers.{AreNear}
 
 -- what is left of a wrapped difference, upwards
-ahead : (m v k : ℕ) → 0 < m → k < m → ((v + k) % m + (m - v % m)) % m ≡ k
+pub ahead : (m v k : ℕ) → 0 < m → k < m → ((v + k) % m + (m - v % m)) % m ≡ k
 ahead m v k some below =
     let is : (v + k) + (m - v % m) ≡ k + m * (v / m + 1) = omega arith in
     mod-add-mod (v + k) m (m - v % m) ∙ ap (λ x. x % m) is ∙ add-mul-mod_self_left k m (v / m + 1) ∙ mod-eq_of_lt below

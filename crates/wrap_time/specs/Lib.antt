@@ -1,3 +1,4 @@
 pub mod WordDifference
+pub mod WordLess
 pub mod NearNumbers
 pub mod Extended

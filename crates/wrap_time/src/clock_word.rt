@@ -1,5 +1,6 @@
 ghost use Rattle.std.specs.Prelude.{◌≡◌, ℕ, ◌+◌, ◌%◌, ◌^◌, ◌<◌, ◌⊎◌, pos, ◌-ℤ◌};
 ghost use Rattle.wrap_time.specs.WordDifference.{word_difference};
+ghost use Rattle.wrap_time.specs.WordLess.{word_less};
 ghost use Rattle.wrap_time.specs.NearNumbers.{AreNear};
 
 use crate::word32::T32;
@@ -31,6 +32,11 @@ pub trait ClockWord: Copy {
     /// The word `ns` later.
     fn add(self, ns: u64) -> Self
         ensures { number result ≡ (number self + ns) % 2 ^ WIDTH };
+
+    /// The word `ns` earlier.
+    fn sub(self, ns: u64) -> Self
+        ensures is { number result ≡ word_less WIDTH (number self) ns }
+        ensures back { (number result + ns) % 2 ^ WIDTH ≡ number self };
 
     /// How far this word is ahead of the other, in ns: negative where it is behind. This is the
     /// difference of the times as long as they are less than half the range apart.

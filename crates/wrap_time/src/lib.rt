@@ -4,7 +4,8 @@
 //!
 //! A [`ClockWord`] is a time of either width, [`T32`] or [`T64`]. Two of them have no order, since
 //! either may have wrapped; they have a signed difference, which is that of the times behind them
-//! wherever those are less than half the range apart ([`near_numbers`]). [`extend`] makes a low half
+//! wherever those are less than half the range apart ([`near_numbers`]). Sums and differences of words are the
+//! words of the sums and differences of times ([`cuts_of_sums`], [`cuts_of_differences`]). [`extend`] makes a low half
 //! a time of 64 bits again, by a time that is expected near it.
 //!
 //! Contracts see a word as its number (`specs/WordDifference.antt`, `specs/Extended.antt`).
@@ -18,7 +19,7 @@ mod word64;
 
 pub use clock_word::ClockWord;
 pub use extension::extend;
-pub use laws::near_numbers;
+pub use laws::{cuts_of_differences, cuts_of_sums, cuts_of_cuts, latched_differences, near_numbers, offsets, subtracted_and_back};
 pub use word32::T32;
 pub use word64::T64;
 

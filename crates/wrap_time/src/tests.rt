@@ -1,6 +1,6 @@
 //! Times worked out by hand on both sides of the places where they wrap.
 
-use super::{ClockWord, T32, T64, extend, near_numbers};
+use super::{ClockWord, T32, T64, extend};
 
 /// A word of the time `at` that is moved by `ns`: its number, its low half and how far it came.
 fn moved<W: ClockWord>(at: u64, ns: u64) -> (u64, u64, i64) {
@@ -11,7 +11,6 @@ fn moved<W: ClockWord>(at: u64, ns: u64) -> (u64, u64, i64) {
 
 #[test]
 fn times_that_wrap(rt: HostRuntime) {
-    near_numbers();
     assert_eq!(rt; (T32::WIDTH, T64::WIDTH), (32, 64));
 
     // 4,294,967,290 ns and 16 ns more: six before the wrap of 32 bits, ten after it

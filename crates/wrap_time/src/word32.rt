@@ -42,6 +42,11 @@ impl ClockWord for T32 {
         T32(self.0.wrapping_add((ns % (1 << 32)) as u32))
     }
 
+    #[tactic(auto, using(crate::proofs::Cuts::less_and_back))]
+    fn sub(self, ns: u64) -> Self {
+        T32(self.0.wrapping_sub((ns % (1 << 32)) as u32))
+    }
+
     #[tactic(auto, using(crate::proofs::Near::word_difference_near))]
     fn diff(self, other: Self) -> i64 {
         i64::from(self.0.wrapping_sub(other.0).cast_signed())

@@ -43,6 +43,11 @@ impl ClockWord for T64 {
         T64(self.0.wrapping_add(ns))
     }
 
+    #[tactic(auto, using(crate::proofs::Cuts::less_and_back))]
+    fn sub(self, ns: u64) -> Self {
+        T64(self.0.wrapping_sub(ns))
+    }
+
     #[tactic(auto, using(crate::proofs::Near::word_difference_near))]
     fn diff(self, other: Self) -> i64 {
         self.0.wrapping_sub(other.0).cast_signed()
