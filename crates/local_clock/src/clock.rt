@@ -54,8 +54,7 @@ impl<W: ClockWord> Clone for LocalClock<W> {
 }
 
 impl<W: ClockWord> LocalClock<W> {
-    /// A clock at true time 0 with nothing to correct. `g` is how many ticks there are to a correction:
-    /// the speed counter's start divided by 64 (ESC data sheet, speed counter).
+    /// A clock at true time 0 with nothing to correct. `g` is how many ticks there are to a correction.
     pub fn new(osc: Osc, start: W, g: u8) -> Self
         requires { 1 ≤ g }
         ensures { result ≡ started osc (W.number start) g }
