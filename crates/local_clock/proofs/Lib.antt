@@ -4,3 +4,7 @@ pub mod Within
 pub mod Reaching
 pub mod ManyTicks
 pub mod WorkedOff
+pub mod History
+pub mod LocalTime
+pub mod Steady
+pub mod Behind

@@ -1,12 +1,12 @@
 -- What the tick by tick definitions say of any number of ticks.
-use Rattle.std.specs.Prelude.{List, [], ◌∷◌, ◌≡◌, ℕ, suc, zero, ◌+◌, ◌-◌, ◌*◌, ◌%◌, ◌^◌, ◌≤◌, ℤ, pos, negsuc, ◌+ℤ◌, Bool, true, false, nat_le}
+use Rattle.std.specs.Prelude.{◌≡◌, ℕ, suc, zero, ◌+◌, ◌-◌, ◌*◌, ◌%◌, ◌^◌, ◌≤◌, ℤ, pos, negsuc, ◌+ℤ◌, Bool, true, false, nat_le}
 use Rattle.std.proofs.Common.{arith, sym, ap, ◌∙◌, refl, add-zero, add-suc}
 use Rattle.std.proofs.lemmas.Int.{ints}
 use Rattle.std.proofs.Math.Nat.{mod-add-mod}
 use Rattle.osc_clock.specs.Ticks.{IsRunning, ticks}
 use Rattle.osc_clock.proofs.TickLaws.{ticks_rise, ticks_at}
 use Rattle.local_clock.specs.StepRule.{Steering, nearer, corrected_step, step, next_of, next, steered, elapsed}
-use Rattle.local_clock.specs.Reading.{Clock, Happening, ComesAfter, after_event, reading_at, steering_of, ticks_to, reading_after, advanced}
+use Rattle.local_clock.specs.Reading.{Clock, steering_of, ticks_to, reading_after, advanced}
 use Rattle.local_clock.specs.FirstReaching.{tick_after}
 use Rattle.local_clock.proofs.Elapsed.{elapsed_least, elapsed_most}
 
@@ -88,9 +88,3 @@ speed_least g j k s = let e = elapsed_splits g j k s in let least = elapsed_leas
 
 pub speed_most : (g j k : ℕ) (s : Steering) → elapsed g (j + k) s ≤ elapsed g j s + 11 * k
 speed_most g j k s = let e = elapsed_splits g j k s in let most = elapsed_most g k (steered g j s) in omega (arith, e, most)
-
--- an advance on the way changes no reading
-pub reading_on_the_way : (w s t : ℕ) (c : Clock) (events : List Happening) → IsRunning c.osc → c.instant ≤ s → ComesAfter s events t
-    → reading_at w (advanced w s c) events t ≡ reading_at w c events t
-reading_on_the_way w s t c [] run early late = ap (λ a. a.reading) (advanced_twice w s t c run early late)
-reading_on_the_way w s t c (h ∷ rest) run early late = ap (λ a. reading_at w (after_event h.event a) rest t) (advanced_twice w s h.instant c run early late)

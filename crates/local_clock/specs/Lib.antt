@@ -1,5 +1,6 @@
 pub mod StepRule
 pub mod Reading
+pub mod LocalTime
 pub mod FirstReaching
 pub mod AtOnce
 pub mod WorkedOff

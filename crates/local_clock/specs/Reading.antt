@@ -1,5 +1,6 @@
 -- A clock at an instant, and what time and its master do to it.
-use Rattle.std.specs.Prelude.{ℕ, ◌+◌, ◌-◌, ◌%◌, ◌^◌, ◌≤◌, ℤ, pos, List, [], ◌∷◌}
+use Rattle.std.specs.Prelude.{ℕ, ◌+◌, ◌-◌, ◌%◌, ◌^◌, ◌≤◌, ⊤, ℤ, pos, List, [], ◌∷◌, nat_le, if◌then◌else◌}
+use Rattle.std.specs.List.{All}
 use Rattle.osc_clock.specs.Ticks.{Oscillator, ticks}
 use Rattle.local_clock.specs.StepRule.{Steering, steered, elapsed}
 
@@ -55,16 +56,27 @@ pub record Happening : Type 0 where
   pub instant : ℕ
   pub event : Event
 
--- the clock after these events, in order of time; a tick comes before an event at its instant
-abbrev pub after_events : ℕ → List Happening → Clock → Clock
-after_events w [] c = c
-after_events w (h ∷ rest) c = after_events w rest (after_event h.event (advanced w h.instant c))
+-- what an event can be: a reset sets at least one tick to a correction
+abbrev pub IsPossible : Event → Type 0
+IsPossible (received d) = ⊤
+IsPossible (reset g) = 1 ≤ g
 
--- the local time at t of a clock that started so and had these events
+-- the clock at t by its history, a list of events in order of time: it takes those at or before t, each after
+-- the ticks at or before its instant
+abbrev pub clock_at : ℕ → Clock → List Happening → ℕ → Clock
+clock_at w c [] t = advanced w t c
+clock_at w c (h ∷ rest) t =
+    if nat_le h.instant t then clock_at w (after_event h.event (advanced w h.instant c)) rest t else advanced w t c
+
+-- the local time at t of a clock with this history
 abbrev pub reading_at : ℕ → Clock → List Happening → ℕ → ℕ
-reading_at w c events t = (advanced w t (after_events w events c)).reading
+reading_at w c events t = (clock_at w c events t).reading
 
--- the first of these events, or t where there is none, is at or after s
-abbrev pub ComesAfter : ℕ → List Happening → ℕ → Type 0
-ComesAfter s [] t = s ≤ t
-ComesAfter s (h ∷ rest) t = s ≤ h.instant
+-- no event is after s
+abbrev pub AreUntil : ℕ → List Happening → Type 0
+AreUntil s events = All (λ h. h.instant ≤ s) events
+
+-- the events are in order of time, and none is before s
+abbrev pub AreInOrder : ℕ → List Happening → Type 0
+AreInOrder s [] = ⊤
+AreInOrder s (h ∷ rest) = (s ≤ h.instant) × AreInOrder h.instant rest

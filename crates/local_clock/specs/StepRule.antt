@@ -1,4 +1,4 @@
--- How a clock counts: a tick is 10 ns, and 9 or 11 at every g-th one while a received difference is worked off.
+-- How a clock counts, by this project's own rule: a tick is 10 ns, and 9 or 11 at every g-th one while a received difference is worked off.
 use Rattle.std.specs.Prelude.{ℕ, suc, zero, ◌+◌, ℤ, pos, negsuc, nat_le, if◌then◌else◌}
 
 -- what is left to correct, and the ticks since the last correction

@@ -1,5 +1,5 @@
 ghost use Rattle.std.specs.Prelude.{◌≡◌, ℕ, ◌+◌, ◌<◌, ◌≤◌, pos, ⊤, IfSome};
-ghost use Rattle.local_clock.specs.Reading.{advanced, corrected, reset_to, started};
+ghost use Rattle.local_clock.specs.Reading.{advanced, corrected, reset_to, started, ticks_to};
 ghost use Rattle.osc_clock.specs.Ticks.{IsRunning};
 ghost use Rattle.local_clock.specs.FirstReaching.{IsFirstReaching, tick_after, within_time};
 
@@ -15,6 +15,8 @@ use wrap_time::ClockWord;
 pub struct LocalClock<W: ClockWord> {
     osc: Osc,
     instant: u64,
+    // How many ticks there are until the instant.
+    taken: u64,
     reading: W,
     left: i64,
     count: u8,
@@ -22,6 +24,7 @@ pub struct LocalClock<W: ClockWord> {
 }
 
 impl<W: ClockWord> Model for LocalClock<W> {
+    ghost use Rattle.osc_clock.specs.Ticks.{IsRunning, ticks};
     ghost use Rattle.local_clock.specs.Reading.{Clock};
 
     ghost Value = { Clock };
@@ -31,13 +34,13 @@ impl<W: ClockWord> Model for LocalClock<W> {
     ghost view = { λ a. record { osc = a.osc; instant = a.instant; reading = W.number a.reading; left = a.left; count = a.count; g = a.g } };
 
     ghost invariant = { λ a. (a.count < a.g) × (a.left ≡ pos 0 → a.count ≡ 0) × (unsigned_abs a.left ≤ 2 ^ 31)
-        × (W.word (W.number a.reading) ≡ a.reading) };
+        × (W.word (W.number a.reading) ≡ a.reading) × (a.taken ≡ ticks a.osc a.instant) × IsRunning a.osc };
 
-    ghost inverse = { λ c. record { osc = c.osc; instant = c.instant; reading = W.word c.reading; left = c.left; count = c.count; g = c.g } };
+    ghost inverse = { λ c. record { osc = c.osc; instant = c.instant; taken = ticks c.osc c.instant; reading = W.word c.reading; left = c.left; count = c.count; g = c.g } };
 
-    ghost use Rattle.std.proofs.Common.{ap};
+    ghost use Rattle.std.proofs.Common.{ap₂, sym};
 
-    ghost inverse_ok = { λ a h. ap (λ r. record a { reading = r }) h.3 };
+    ghost inverse_ok = { λ a h. ap₂ (λ r n. record a { reading = r; taken = n }) h.3 (sym h.4) };
 }
 
 impl<W: ClockWord> Clone for LocalClock<W> {
@@ -51,8 +54,7 @@ impl<W: ClockWord> Clone for LocalClock<W> {
 }
 
 impl<W: ClockWord> LocalClock<W> {
-    /// A clock at true time 0 with nothing to correct. `g` is how many ticks there are to a correction:
-    /// the speed counter's start divided by 64 (ESC data sheet, speed counter).
+    /// A clock at true time 0 with nothing to correct. `g` is how many ticks there are to a correction.
     pub fn new(osc: Osc, start: W, g: u8) -> Self
         requires { 1 ≤ g }
         ensures { result ≡ started osc (W.number start) g }
@@ -60,11 +62,19 @@ impl<W: ClockWord> LocalClock<W> {
         LocalClock {
             osc,
             instant: 0,
+            taken: osc.ticks_until(0),
             reading: start,
             left: 0,
             count: 0,
             g,
         }
+    }
+
+    /// The oscillator that drives it.
+    pub fn osc(&self) -> &Osc
+        ensures { result.now ≡ self.now.osc }
+    {
+        &self.osc
     }
 
     /// The true time at which it stands, in fs.
@@ -97,18 +107,28 @@ impl<W: ClockWord> LocalClock<W> {
         self.instant_after(1)
     }
 
+    /// How many ticks come after its instant and at or before `t`.
+    pub fn ticks_to(&self, t: u64) -> u64
+        requires { self.now.instant ≤ t }
+        ensures number { result ≡ ticks_to self.now t }
+        ensures running { IsRunning self.now.osc }
+    {
+        self.osc.ticks_until(t) - self.taken
+    }
+
     /// Takes the ticks after its instant and at or before `t`, and stands at `t`.
     pub fn advance(&mut self, t: u64)
         requires { self.old.instant ≤ t }
         ensures is { self.new ≡ advanced W.WIDTH t self.old }
         ensures running { IsRunning self.new.osc }
     {
-        let ticks = self.osc.ticks_until(t) - self.osc.ticks_until(self.instant);
-        let (elapsed, left, count) = ticked(self.left, self.count, self.g, ticks);
+        let ticks = self.osc.ticks_until(t);
+        let (elapsed, left, count) = ticked(self.left, self.count, self.g, ticks - self.taken);
         self.reading = self.reading.add((elapsed % (1 << 64)) as u64);
         self.left = left;
         self.count = count;
         self.instant = t;
+        self.taken = ticks;
     }
 
     /// Begins to work off a difference, in ns: above 0 where the clock is ahead.
@@ -152,7 +172,7 @@ impl<W: ClockWord> LocalClock<W> {
         ensures later { IfSome result (λ t. self.now.instant < t) }
         ensures running { IsRunning self.now.osc }
     {
-        let tick = self.osc.ticks_until(self.instant).checked_add(k)?;
+        let tick = self.taken.checked_add(k)?;
         u64::try_from(self.osc.instant_of(tick)).ok()
     }
 }

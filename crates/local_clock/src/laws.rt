@@ -1,11 +1,14 @@
 //! Laws over the definitions alone, for proofs of the layers above.
 
-ghost use Rattle.std.specs.Prelude.{◌≡◌, ℕ, suc, ◌+◌, ◌-◌, ◌*◌, ◌/◌, ◌<◌, ◌≤◌, ◌+ℤ◌, pos, ℤ, List, min, unsigned_abs};
-ghost use Rattle.osc_clock.specs.Ticks.{IsRunning};
+ghost use Rattle.std.specs.Prelude.{◌≡◌, ℕ, suc, ◌+◌, ◌-◌, ◌*◌, ◌/◌, ◌%◌, ◌^◌, ◌<◌, ◌≤◌, ◌+ℤ◌, pos, ℤ, List, [], ◌∷◌, ◌++◌, min, nat_lt, unsigned_abs};
+ghost use Rattle.std.specs.List.{All};
+ghost use Rattle.wrap_time.specs.NearNumbers.{AreNear};
+ghost use Rattle.osc_clock.specs.Ticks.{Oscillator, IsRunning, ticks};
 ghost use Rattle.local_clock.specs.StepRule.{Steering, next, step, steered, elapsed};
 ghost use Rattle.local_clock.specs.WorkedOff.{IsSteady, IsTowardZero};
-ghost use Rattle.local_clock.specs.Reading.{Clock, ComesAfter, Happening, advanced, reading_after, reading_at, ticks_to};
-ghost use Rattle.local_clock.specs.FirstReaching.{tick_after};
+ghost use Rattle.local_clock.specs.Reading.{Clock, Happening, IsPossible, started, steering_of, ticks_to, reading_after, advanced, after_event, clock_at, reading_at, AreUntil, AreInOrder};
+ghost use Rattle.local_clock.specs.LocalTime.{whole_clock_at, local_time, cut_to};
+ghost use Rattle.local_clock.specs.FirstReaching.{is_behind, tick_after};
 
 /// The reading less what is left rises by exactly 10 ns at every tick, whether it corrects or not.
 /// So k ticks after a received d, with no other event, it has risen by 10·k - d + left.
@@ -45,9 +48,58 @@ pub fn advances_in_turn()
     ensures count { (c : Clock) → (k : ℕ) → IsRunning c.osc → ticks_to c (tick_after c k) ≡ k }
 {}
 
-/// The local time by a clock's history is what the calls show, however often the clock was advanced in
-/// between: it is enough that no advance passes an event that is still to come.
+/// A steering stays steady, so no correction takes more ticks than g: through ticks, and through every
+/// history whose resets leave at least one tick to a correction. A new clock is steady.
+pub fn steady()
+    ensures ticks { (g k : ℕ) → (s : Steering) → IsSteady g s → IsSteady g (steered g k s) }
+    ensures new { (osc : Oscillator) → (start g : ℕ) → 1 ≤ g → IsSteady g (steering_of (started osc start g)) }
+    ensures history { (w t : ℕ) → (c : Clock) → (events : List Happening) → IsSteady c.g (steering_of c) → All (λ h. IsPossible h.event) events
+        → IsSteady (clock_at w c events t).g (steering_of (clock_at w c events t)) }
+{}
+
+/// With nothing left to correct, ticks take 10 ns each and change nothing, whatever was counted.
+pub fn nothing_left()
+    ensures steered { (g k count : ℕ) → steered g k (record { left = pos 0; count = count }) ≡ record { left = pos 0; count = count } }
+    ensures elapsed { (g k count : ℕ) → elapsed g k (record { left = pos 0; count = count }) ≡ 10 * k }
+{}
+
+/// A clock by its history is what the calls make of it, however often it is advanced in between; the
+/// last event comes after all that was before it, and events after t are none yet.
 pub fn history()
-    ensures { (w s t : ℕ) → (c : Clock) → (events : List Happening) → IsRunning c.osc → c.instant ≤ s → ComesAfter s events t
-        → reading_at w (advanced w s c) events t ≡ reading_at w c events t }
+    ensures in_turn { (w s t : ℕ) → (c : Clock) → (before later : List Happening) → IsRunning c.osc → c.instant ≤ s → s ≤ t
+        → AreUntil s before → AreInOrder s later → clock_at w (clock_at w c before s) later t ≡ clock_at w c (before ++ later) t }
+    ensures one_more { (w t : ℕ) → (c : Clock) → (events : List Happening) → (h : Happening) → AreUntil h.instant events → h.instant ≤ t
+        → clock_at w c (events ++ h ∷ []) t ≡ advanced w t (after_event h.event (clock_at w c events h.instant)) }
+    ensures not_yet { (w t : ℕ) → (c : Clock) → (before later : List Happening) → AreInOrder (t + 1) later
+        → clock_at w c (before ++ later) t ≡ clock_at w c before t }
+    ensures stands { (w t : ℕ) → (c : Clock) → (events : List Happening) → ((clock_at w c events t).instant ≡ t) × ((clock_at w c events t).osc ≡ c.osc) }
+{}
+
+/// What a clock of w bits shows is the cut of its local time without wrap, and all else of it is the same.
+/// That time has the laws of `history`, and rises by 9 to 11 ns at every tick.
+pub fn local_time_is_cut()
+    ensures clock { (w t : ℕ) → (c : Clock) → (events : List Happening) → clock_at w c events t ≡ cut_to w (whole_clock_at c events t) }
+    ensures reading { (w t : ℕ) → (c : Clock) → (events : List Happening) → reading_at w c events t ≡ local_time c events t % 2 ^ w }
+    ensures in_turn { (s t : ℕ) → (c : Clock) → (before later : List Happening) → IsRunning c.osc → c.instant ≤ s → s ≤ t
+        → AreUntil s before → AreInOrder s later → whole_clock_at (whole_clock_at c before s) later t ≡ whole_clock_at c (before ++ later) t }
+    ensures slowest { (s t k : ℕ) → (c : Clock) → (events : List Happening) → IsRunning c.osc → c.instant ≤ s → s ≤ t → AreInOrder c.instant events
+        → ticks c.osc s + k ≡ ticks c.osc t → local_time c events s + 9 * k ≤ local_time c events t }
+    ensures fastest { (s t k : ℕ) → (c : Clock) → (events : List Happening) → IsRunning c.osc → c.instant ≤ s → s ≤ t → AreInOrder c.instant events
+        → ticks c.osc s + k ≡ ticks c.osc t → local_time c events t ≤ local_time c events s + 11 * k }
+{}
+
+/// Two words of a clock are as far apart as its local times, where these are less than the range apart.
+/// An offset that makes its word n at s makes it n and the local time since then at t.
+pub fn words_of_local_time()
+    ensures apart { (w s t : ℕ) → (c : Clock) → (events : List Happening) → local_time c events s ≤ local_time c events t
+        → local_time c events t < local_time c events s + 2 ^ w
+        → (reading_at w c events t + (2 ^ w - reading_at w c events s)) % 2 ^ w ≡ local_time c events t - local_time c events s }
+    ensures offset { (w n s t : ℕ) → (c : Clock) → (events : List Happening) → local_time c events s ≤ local_time c events t
+        → (reading_at w c events t + (n + (2 ^ w - reading_at w c events s)) % 2 ^ w) % 2 ^ w
+        ≡ (n + (local_time c events t - local_time c events s)) % 2 ^ w }
+{}
+
+/// Of the words of numbers less than half of the range apart, that of the lesser number is behind.
+pub fn behind_of_near_numbers()
+    ensures { (w u v : ℕ) → 0 < w → AreNear w u v → is_behind w (u % 2 ^ w) (v % 2 ^ w) ≡ nat_lt u v }
 {}

@@ -1,12 +1,13 @@
-//! The local clock of a slave, as the distributed clocks of EtherCAT have it (ETG.1000.4, the attributes
-//! of distributed clocks): it counts 10 ns at every tick of the slave's oscillator, and takes 9 or 11 ns
-//! at every g-th tick for as long as a received difference is not worked off.
+//! The local clock of a slave: it counts 10 ns at every tick of the slave's oscillator, and takes 9 or
+//! 11 ns at every g-th tick for as long as a received difference is not worked off. This step rule, and
+//! that a reset drops what is left, are this project's own; a controller has a loop filter in their place.
 //!
 //! A [`LocalClock`] stands at a true time, in fs, and shows a local time, in ns. [`LocalClock::advance`]
 //! takes all ticks of an interval at once, by a division, and [`LocalClock::first_reaching`] finds the
 //! tick at which the clock comes to a value by bisection; what they answer is said tick by tick, in
 //! `specs/StepRule.antt`, `specs/Reading.antt` and `specs/FirstReaching.antt`. What follows from these
-//! for any number of ticks is in the [`laws`].
+//! for any number of ticks, and for a whole history of differences and resets, is in the [`laws`], that of
+//! the local time without wrap (`specs/LocalTime.antt`) among it.
 #![tactic(auto)]
 
 mod clock;
@@ -14,6 +15,3 @@ pub mod laws;
 mod steps;
 
 pub use clock::LocalClock;
-
-#[cfg(test)]
-mod tests;

@@ -1,5 +1,4 @@
 pub mod Gaps
 mod Pieces
 mod Walks
-mod Counting
 pub mod TickLaws

@@ -1,8 +1,8 @@
-//! The oscillator behind a slave's clock (ETG.1000.4, distributed clocks): the instants in true time,
-//! in fs, at which the clock takes a step.
+//! The oscillator behind a slave's clock: the instants in true time, in fs, at which the clock takes a
+//! step. It is this project's model of a quartz that drifts, and changes its drift.
 //!
 //! An [`Osc`] has its first tick at a phase and each further one a period after the one before, until
-//! a [`RateRow`] gives another period. So a real quartz is modelled that drifts, and changes its drift.
+//! a [`RateRow`] gives another period.
 //! Ticks are numbered from 1. [`Osc::ticks_until`] says how many there are by a time, and
 //! [`Osc::instant_of`] when one comes. Both go over the rows and never over ticks.
 //!
@@ -18,8 +18,3 @@ mod rate_row;
 pub use laws::{interval_ticks, steady_period, ticks_and_instants};
 pub use osc::Osc;
 pub use rate_row::{RateList, RateRow};
-
-#[cfg(test)]
-mod one_by_one;
-#[cfg(test)]
-mod tests;

@@ -1,5 +1,5 @@
-use Rattle.local_clock.proofs.ManyTicks.{reading_on_the_way}
+use Rattle.local_clock.proofs.History.{in_turn, one_more, not_yet, stands}
 use Rattle.local_clock.proofs.laws.history.Goals as goal
 
 pub returns : goal.returns
-returns c = reading_on_the_way
+returns c = record { in_turn = in_turn; one_more = one_more; not_yet = not_yet; stands = stands }
