@@ -6,9 +6,9 @@ use Rattle.std.proofs.lemmas.Bool.{cases_lt}
 use Rattle.std.proofs.lemmas.Bool.Decides.{nat_tests}
 use Rattle.ecat_frame.specs.FrameGrammar.{AreBytes}
 use Rattle.ecat_frame.specs.InsideScan.{IsLive}
-use Rattle.ecat_frame.specs.Refusals.{step, behind, room_for, Reaches}
-use Rattle.ecat_frame.specs.declared.place.Place.{Place}
-use Rattle.ecat_frame.specs.declared.place.Place.TheVariants as place
+use Rattle.ecat_frame.specs.FramePlace.{Place}
+use Rattle.ecat_frame.specs.Refusals.{Reaches, behind, room_for, step}
+use Rattle.ecat_frame.specs.FramePlace as place
 use Rattle.ecat_frame.proofs.FrameRead.{FitsLeft, body_takes, front_takes, low_step, high_step, behind_more}
 use Rattle.ecat_frame.proofs.Steps.{reaches_append}
 

@@ -6,12 +6,12 @@ use Rattle.std.proofs.lemmas.Bool.{cases_lt}
 use Rattle.ecat_frame.specs.Faults.{IsFault, IsRefused, IsShort}
 use Rattle.ecat_frame.specs.FrameGrammar.{AreBytes, InGrammar, IsViable}
 use Rattle.ecat_frame.specs.InsideScan.{IsLive, LeadsTo, StopsAt}
+use Rattle.ecat_frame.specs.FramePlace.{Place}
 use Rattle.ecat_frame.specs.Refusals.{Reaches, Reason, refusal, step}
 use Rattle.ecat_frame.specs.Refusals as reason
 use Rattle.ecat_frame.specs.declared.error.FrameError.{FrameError}
 use Rattle.ecat_frame.specs.declared.error.FrameError.TheVariants as fault
-use Rattle.ecat_frame.specs.declared.place.Place.{Place}
-use Rattle.ecat_frame.specs.declared.place.Place.TheVariants as place
+use Rattle.ecat_frame.specs.FramePlace as place
 use Rattle.ecat_frame.proofs.Completions.{completes}
 use Rattle.ecat_frame.proofs.FrameInverse.{frame_inverse}
 use Rattle.ecat_frame.proofs.FrameRead.{frame_read}

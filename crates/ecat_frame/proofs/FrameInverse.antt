@@ -7,12 +7,12 @@ use Rattle.std.proofs.lemmas.Bool.{cases_lt}
 use Rattle.std.proofs.lemmas.Bool.Decides.{nat_tests}
 use Rattle.ecat_frame.specs.Commands.{code_of, commands}
 use Rattle.ecat_frame.specs.FrameGrammar.{AreBytes, DatagramValue, FrameValue, InGrammar, IsDatagram, all_spelled, header_word, length_word_of, more, spelled, spelling, word}
-use Rattle.ecat_frame.specs.Refusals.{after_header, step, behind, room_for, Reaches}
+use Rattle.ecat_frame.specs.FramePlace.{Place}
+use Rattle.ecat_frame.specs.Refusals.{Reaches, after_header, behind, room_for, step}
 use Rattle.ecat_frame.specs.Refusals as reason
 use Rattle.ecat_frame.specs.declared.command.Command.{Command}
 use Rattle.ecat_frame.specs.declared.command.Command.TheVariants.{Nop}
-use Rattle.ecat_frame.specs.declared.place.Place.{Place}
-use Rattle.ecat_frame.specs.declared.place.Place.TheVariants as place
+use Rattle.ecat_frame.specs.FramePlace as place
 use Rattle.ecat_frame.proofs.FrameRead.{FitsLeft, behind_last, behind_more}
 use Rattle.ecat_frame.proofs.Spelled.{length-spelled, spelled-append}
 

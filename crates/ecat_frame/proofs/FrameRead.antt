@@ -7,7 +7,7 @@ use Rattle.std.proofs.lemmas.Bool.Decides.{nat_tests}
 use Rattle.ecat_frame.specs.Commands.{code_of}
 use Rattle.ecat_frame.specs.FrameGrammar.{DatagramValue, FrameValue, IsDatagram, IsFrame, all_spelled, header_word, length_word_of, more, spelled, spelling, word}
 use Rattle.ecat_frame.specs.Refusals.{step, behind, room_for, Reaches}
-use Rattle.ecat_frame.specs.declared.place.Place.TheVariants as place
+use Rattle.ecat_frame.specs.FramePlace as place
 use Rattle.ecat_frame.proofs.Datagrams.{some_datagram}
 use Rattle.ecat_frame.proofs.Spelled.{code_of-lt, length-spelled, length_word-lt}
 use Rattle.ecat_frame.proofs.Spelling.{header_word-lt, header_word-mod}

@@ -72,6 +72,11 @@ pub drop-kept_bytes : (f : FrameValue) → IsFrame f → drop 16 (kept_bytes f) 
 unfolding kept_bytes
 drop-kept_bytes f w = drop-spelling f w (replicate (1514 - length (spelling f)) 0)
 
+-- the header word in the array
+pub header_in-kept : (a : Inside) (f : FrameValue) → Keeps a f → header_in a.bytes ≡ header_word f
+unfolding kept_bytes
+header_in-kept a f k = rw k.bytes (header_in-spelling f k.valid (replicate (1514 - length (spelling f)) 0))
+
 -- where datagram k begins
 pub begins_at : (a : Inside) (f : FrameValue) (k at : ℕ) → Keeps a f → k < length f.datagrams → at ≡ 16 + place_in k (drop 16 a.bytes) → BeginsAt f k at
 begins_at a f k at w h e =

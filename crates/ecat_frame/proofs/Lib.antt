@@ -17,3 +17,7 @@ pub mod FrameInverse
 pub mod FaultFacts
 mod Scanned
 mod Counted
+pub mod Apart
+pub mod Wiped
+mod Heads
+mod Alike

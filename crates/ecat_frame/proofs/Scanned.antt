@@ -1,10 +1,12 @@
 -- A turn of the loop that reads a frame.
 use Rattle.std.proofs.Common.{◌≡◌, ℕ, ◌+◌, ◌<◌, List, length, take, get_or, Result, Ok, Err, refl}
-use Rattle.ecat_frame.specs.InsideScan.{IsLive, LeadsTo, StopsAt, told}
+use Rattle.ecat_frame.specs.InsideScan.{IsLive, LeadsTo, StopsAt, place_of, told}
+use Rattle.ecat_frame.specs.FramePlace.{Place}
 use Rattle.ecat_frame.specs.Refusals.{Reason, refusal, step}
 use Rattle.ecat_frame.specs.declared.error.FrameError.{FrameError}
-use Rattle.ecat_frame.specs.declared.place.Place.{Place}
-use Rattle.ecat_frame.specs.declared.place.Place.TheVariants as place
+use Rattle.ecat_frame.specs.declared.place.Place.{Place as Kept}
+use Rattle.ecat_frame.specs.declared.place.Place.TheVariants as kept
+use Rattle.ecat_frame.specs.FramePlace as place
 use Rattle.ecat_frame.proofs.Steps.{reaches_more}
 
 told_ok : (n : ℕ) (s : Result Place Reason) (q : Place) → Ok q ≡ told n s → s ≡ Ok q
@@ -25,3 +27,14 @@ pub stops_at : (bs : List ℕ) (n : ℕ) (p : Place) (e : FrameError) → n < le
 stops_at bs n p e inside l h =
     let t = told_err n (step p (get_or bs n 0)) e h in
     record { n = n; why = t.0; is = t.1.1; inside = inside; at = p; live = l.live; reached = l.reached; refused = t.1.0 }
+
+-- only padding is seen as padding
+pub was_padding : (p : Kept) (room : ℕ) → place_of p ≡ place.Padding room → p ≡ kept.Padding room
+was_padding (kept.Front n) room e = cc
+was_padding kept.HeaderLow room e = cc
+was_padding (kept.HeaderHigh low) room e = cc
+was_padding (kept.Head r left at) room e = cc
+was_padding (kept.LengthLow r left) room e = cc
+was_padding (kept.LengthHigh r left low) room e = cc
+was_padding (kept.Body r left body) room e = cc
+was_padding (kept.Padding r) room e = cc

@@ -1,8 +1,8 @@
 -- Reading byte by byte: what leads where.
 use Rattle.std.proofs.Common.{◌≡◌, ℕ, ◌+◌, ◌<◌, List, [], ◌∷◌, ◌++◌, length, take, get_or, Ok, refl, sym, ◌∙◌, subst}
 use Rattle.std.proofs.lemmas.List.{take_more}
-use Rattle.ecat_frame.specs.Refusals.{step, Reaches}
-use Rattle.ecat_frame.specs.declared.place.Place.{Place}
+use Rattle.ecat_frame.specs.FramePlace.{Place}
+use Rattle.ecat_frame.specs.Refusals.{Reaches, step}
 
 pub reaches_append : (xs ys : List ℕ) (p q r : Place) → Reaches p xs q → Reaches q ys r → Reaches p (xs ++ ys) r
 reaches_append [] ys p q r h k = subst (λ x. Reaches x ys r) (sym h) k

@@ -15,3 +15,7 @@ changed k g f = record f { datagrams = modify k g f.datagrams }
 -- these bytes written at a place
 abbrev pub put : ℕ → List ℕ → List ℕ → List ℕ
 put at part bytes = take at bytes ++ (part ++ drop (at + length part) bytes)
+
+-- a datagram with this ADP, data and working counter
+abbrev pub answered : ℕ → List ℕ → ℕ → DatagramValue → DatagramValue
+answered adp payload wkc d = record d { head = record d.head { adp = adp }; payload = payload; wkc = wkc }

@@ -1,12 +1,11 @@
 -- Which error says what of bytes that are no frame.
 use Rattle.std.specs.Prelude.{◌≡◌, ℕ, ◌+◌, ◌<◌, List, length, take, slice_index, Err}
 use Rattle.ecat_frame.specs.FrameGrammar.{InGrammar, IsViable}
+use Rattle.ecat_frame.specs.FramePlace.{Place, Front}
 use Rattle.ecat_frame.specs.Refusals.{Reason, Reaches, step}
 use Rattle.ecat_frame.specs.Refusals as reason
 use Rattle.ecat_frame.specs.declared.error.FrameError.{FrameError}
 use Rattle.ecat_frame.specs.declared.error.FrameError.TheVariants as fault
-use Rattle.ecat_frame.specs.declared.place.Place.{Place}
-use Rattle.ecat_frame.specs.declared.place.Place.TheVariants as place
 
 -- they are n bytes, and the front of a frame but no frame
 pub record IsShort (n : ℕ) (bytes : List ℕ) : Type 0 where
@@ -21,7 +20,7 @@ pub record IsRefused (why : Reason) (n : ℕ) (bytes : List ℕ) : Type 0 where
   pub viable : IsViable (take n bytes)
   pub ends : IsViable (take (n + 1) bytes) → ⊥
   pub at : Place
-  pub reached : Reaches (place.Front 0) (take n bytes) at
+  pub reached : Reaches (Front 0) (take n bytes) at
   pub refused : step at (slice_index bytes n) ≡ Err why
 
 -- what an error says of the bytes

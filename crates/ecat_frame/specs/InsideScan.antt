@@ -1,9 +1,26 @@
 -- How a frame is read.
 use Rattle.std.specs.Prelude.{◌≡◌, ℕ, ◌+◌, ◌<◌, ◌≤◌, ◌⊎◌, List, length, take, slice_index, Result, Ok, Err}
+use Rattle.ecat_frame.specs.FramePlace.{Place}
 use Rattle.ecat_frame.specs.Refusals.{Reason, Reaches, refusal, step}
+use Rattle.ecat_frame.specs.FramePlace as place
 use Rattle.ecat_frame.specs.declared.error.FrameError.{FrameError}
-use Rattle.ecat_frame.specs.declared.place.Place.{Place}
-use Rattle.ecat_frame.specs.declared.place.Place.TheVariants as place
+use Rattle.ecat_frame.specs.declared.place.Place.{Place as Kept}
+use Rattle.ecat_frame.specs.declared.place.Place.TheVariants as kept
+
+-- a place that is kept, as the place that it is
+abbrev pub place_of : Kept → Place
+place_of (kept.Front n) = place.Front n
+place_of kept.HeaderLow = place.HeaderLow
+place_of (kept.HeaderHigh low) = place.HeaderHigh low
+place_of (kept.Head room left at) = place.Head room left at
+place_of (kept.LengthLow room left) = place.LengthLow room left
+place_of (kept.LengthHigh room left low) = place.LengthHigh room left low
+place_of (kept.Body room left body) = place.Body room left body
+place_of (kept.Padding room) = place.Padding room
+
+abbrev pub answer_of : Result Kept FrameError → Result Place FrameError
+answer_of (Ok p) = Ok (place_of p)
+answer_of (Err e) = Err e
 
 -- a step at byte n
 abbrev pub told : ℕ → Result Place Reason → Result Place FrameError

@@ -3,8 +3,11 @@ pub mod FrameGrammar
 pub mod Changed
 pub mod Built
 pub mod Reading
+pub mod Difference
 pub mod InsideBuilder
 pub mod InsideFrame
+pub mod InsideDifference
+pub mod FramePlace
 pub mod Refusals
 pub mod Faults
 pub mod ErrorText

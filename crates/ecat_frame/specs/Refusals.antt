@@ -1,9 +1,8 @@
 -- A frame read byte by byte: where its next byte stands, and for which reason it is refused there.
 use Rattle.std.specs.Prelude.{◌≡◌, ℕ, ◌+◌, ◌-◌, ◌*◌, ◌/◌, ◌%◌, ◌&&◌, ◌||◌, ◌==◌, not, nat_lt, nat_le, if◌then◌else◌, List, [], ◌∷◌, Result, Ok, Err}
+use Rattle.ecat_frame.specs.FramePlace.{Place, Front, HeaderLow, HeaderHigh, Head, LengthLow, LengthHigh, Body, Padding}
 use Rattle.ecat_frame.specs.declared.error.FrameError.{FrameError}
 use Rattle.ecat_frame.specs.declared.error.FrameError.TheVariants as fault
-use Rattle.ecat_frame.specs.declared.place.Place.{Place}
-use Rattle.ecat_frame.specs.declared.place.Place.TheVariants as place
 
 -- why no frame goes on with a byte
 pub data Reason : Type 0 where
@@ -33,7 +32,7 @@ abbrev pub after_header : ℕ → Result Place Reason
 after_header word =
     if not (word / 4096 == 1) then Err FrameType
     else if nat_lt (word % 2048) 12 || nat_lt 1498 (word % 2048) then Err Length
-    else Ok (place.Head (room_for (word % 2048)) (word % 2048) 0)
+    else Ok (Head (room_for (word % 2048)) (word % 2048) 0)
 
 -- The first byte of a length word: Length where 12 and its value are more than what is left, More
 -- where they leave 1 to 11 bytes, which no datagram fills.
@@ -41,7 +40,7 @@ abbrev pub after_length_low : ℕ → ℕ → ℕ → Result Place Reason
 after_length_low room left low =
     if nat_lt left (12 + low) then Err Length
     else if nat_lt (12 + low) left && nat_lt left (24 + low) then Err More
-    else Ok (place.LengthHigh room left low)
+    else Ok (LengthHigh room left low)
 
 -- The length word, at its second byte: Length where the datagram is longer than what is left, More
 -- where the more bit is 0 and bytes are left behind it, or is 1 and fewer than 12 are left.
@@ -50,29 +49,29 @@ after_length room left word =
     if nat_lt left (12 + word % 2048) then Err Length
     else if not (nat_le 32768 word) && nat_lt (12 + word % 2048) left then Err More
     else if nat_le 32768 word && nat_lt left (24 + word % 2048) then Err More
-    else Ok (place.Body room (left - (12 + word % 2048)) (word % 2048 + 4))
+    else Ok (Body room (left - (12 + word % 2048)) (word % 2048 + 4))
 
 -- behind a datagram: the next one, or the padding
 abbrev pub behind : ℕ → ℕ → Place
-behind room left = if left == 0 then place.Padding room else place.Head room left 0
+behind room left = if left == 0 then Padding room else Head room left 0
 
 -- The place behind the byte at a place, or why it is refused: EtherType at offsets 12 and 13, Command
 -- above 14, TooLong behind the greatest padding, and as above.
 abbrev pub step : Place → ℕ → Result Place Reason
-step (place.Front n) byte =
-    if nat_lt n 12 then Ok (place.Front (n + 1))
-    else if n == 12 then (if byte == 0x88 then Ok (place.Front 13) else Err EtherType)
-    else if byte == 0xA4 then Ok place.HeaderLow else Err EtherType
-step place.HeaderLow byte = Ok (place.HeaderHigh byte)
-step (place.HeaderHigh low) byte = after_header (low + 256 * byte)
-step (place.Head room left at) byte =
+step (Front n) byte =
+    if nat_lt n 12 then Ok (Front (n + 1))
+    else if n == 12 then (if byte == 0x88 then Ok (Front 13) else Err EtherType)
+    else if byte == 0xA4 then Ok HeaderLow else Err EtherType
+step HeaderLow byte = Ok (HeaderHigh byte)
+step (HeaderHigh low) byte = after_header (low + 256 * byte)
+step (Head room left at) byte =
     if at == 0 && nat_lt 14 byte then Err Command
-    else if at == 5 then Ok (place.LengthLow room left) else Ok (place.Head room left (at + 1))
-step (place.LengthLow room left) byte = after_length_low room left byte
-step (place.LengthHigh room left low) byte = after_length room left (low + 256 * byte)
-step (place.Body room left body) byte =
-    if nat_lt 1 body then Ok (place.Body room left (body - 1)) else Ok (behind room left)
-step (place.Padding room) byte = if room == 0 then Err TooLong else Ok (place.Padding (room - 1))
+    else if at == 5 then Ok (LengthLow room left) else Ok (Head room left (at + 1))
+step (LengthLow room left) byte = after_length_low room left byte
+step (LengthHigh room left low) byte = after_length room left (low + 256 * byte)
+step (Body room left body) byte =
+    if nat_lt 1 body then Ok (Body room left (body - 1)) else Ok (behind room left)
+step (Padding room) byte = if room == 0 then Err TooLong else Ok (Padding (room - 1))
 
 -- the bytes lead from one place to the other
 abbrev pub Reaches : Place → List ℕ → Place → Type 0

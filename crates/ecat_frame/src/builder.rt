@@ -2,11 +2,12 @@ ghost use Rattle.std.specs.Prelude.{◌≡◌, ◌+◌, ◌<◌, ◌≤◌, ◌�
 ghost use Rattle.ecat_frame.specs.Built.{fresh, built, front_of, size_of};
 ghost use Rattle.ecat_frame.specs.FrameGrammar.{all_spelled};
 
-use crate::bytes::{
-    FIRST, LENGTH_WORD, MAX_LENGTH, MORE, OVERHEAD, place_of, read_word, write_part, write_word,
-};
+use crate::bytes::{place_of, read_word, write_part, write_word};
 use crate::datagram::{Head, write_datagram};
 use crate::frame::Frame;
+use crate::layout::{
+    DATAGRAMS, FIRST, HEADER, LENGTH_WORD, MAX_LENGTH, MIN_LENGTH, MORE, OVERHEAD, TYPE_UNIT,
+};
 use std::marker::Model;
 use thiserror::Error;
 
@@ -15,17 +16,11 @@ use thiserror::Error;
 #[error("the frame has no room for this datagram")]
 pub struct Full;
 
-/// The least bytes that Ethernet carries.
-const LEAST_LENGTH: usize = 60;
-
 const BROADCAST: [u8; 6] = [0xFF; 6];
 
 const SOURCE: [u8; 6] = [0x02, 0x00, 0x00, 0x00, 0x00, 0x01];
 
 const ETHER_TYPE: [u8; 2] = [0x88, 0xA4];
-
-/// The type of the header word: datagrams follow.
-const DATAGRAMS: u16 = 1 << 12;
 
 /// The datagrams of a frame to be, in their order.
 // Each is written where it will stand, with its more bit set, and `finish` clears that of the last:
@@ -101,7 +96,7 @@ impl Builder {
         write_front(&mut bytes, (self.len - FIRST) as u16);
         Frame {
             bytes,
-            len: self.len.max(LEAST_LENGTH),
+            len: self.len.max(MIN_LENGTH),
             count: self.count,
         }
     }
@@ -116,5 +111,5 @@ fn write_front(bytes: &mut [u8], len: u16)
     write_part(bytes, 0, &BROADCAST);
     write_part(bytes, 6, &SOURCE);
     write_part(bytes, 12, &ETHER_TYPE);
-    write_word(bytes, 14, DATAGRAMS | len);
+    write_word(bytes, HEADER, DATAGRAMS * TYPE_UNIT | len);
 }

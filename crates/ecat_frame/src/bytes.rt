@@ -6,36 +6,8 @@ ghost use Rattle.ecat_frame.specs.FrameGrammar.{FrameValue, InGrammar, IsFrame, 
 ghost use Rattle.ecat_frame.specs.Changed.{put};
 ghost use Rattle.ecat_frame.specs.Reading.{data_length, place_in};
 
+use crate::layout::{FIRST, HEADER, LENGTH_BITS, LENGTH_WORD, OVERHEAD};
 use byteorder::{ByteOrder, LittleEndian};
-
-/// The most bytes that a frame has.
-pub const MAX_LENGTH: usize = 1514;
-
-/// Where the first datagram of a frame begins.
-pub(crate) const FIRST: usize = 16;
-
-/// The bytes of a datagram beside its data: ten before it, and the working counter.
-pub(crate) const OVERHEAD: usize = 12;
-
-/// The bit of a length word that says that another datagram follows.
-pub(crate) const MORE: u16 = 0x8000;
-
-/// The bits of a length word or of the header word that are a length.
-pub(crate) const LENGTH_BITS: u16 = 0x07FF;
-
-/// Where the header word of a frame stands.
-pub(crate) const HEADER: usize = 14;
-
-// The fields of a datagram, from its first byte on.
-pub(crate) const ADP: usize = 2;
-
-pub(crate) const ADO: usize = 4;
-
-pub(crate) const LENGTH_WORD: usize = 6;
-
-pub(crate) const IRQ: usize = 8;
-
-pub(crate) const PAYLOAD: usize = 10;
 
 pub(crate) fn read_word(bytes: &[u8], at: usize) -> u16
     requires { at + 2 ≤ length bytes.now }

@@ -3,10 +3,9 @@ ghost use Rattle.byteorder.specs.Endian.{little_number};
 ghost use Rattle.ecat_frame.specs.Built.{fresh};
 ghost use Rattle.ecat_frame.specs.FrameGrammar.{IsDatagram, spelled};
 
-use crate::bytes::{
-    ADO, ADP, IRQ, LENGTH_WORD, MORE, PAYLOAD, data_length, read_word, write_part, write_word,
-};
+use crate::bytes::{data_length, read_word, write_part, write_word};
 use crate::command::Command;
+use crate::layout::{ADO, ADP, IRQ, LENGTH_WORD, MORE, PAYLOAD};
 
 /// What a datagram asks, and of whom (ETG.1000.4, section 5.4).
 #[derive(Clone, Copy, Debug, PartialEq, Eq)]

@@ -1,15 +1,16 @@
 ghost use Rattle.std.specs.Prelude.{◌≡◌, ◌+◌, ◌<◌, ◌≤◌, Some, slice_get, length, drop, IfSome, IfOk, IfErr, IsOk, Ok, Err};
 ghost use Rattle.ecat_frame.specs.Faults.{IsFault};
 ghost use Rattle.ecat_frame.specs.declared.error.FrameError.{FrameError};
-ghost use Rattle.ecat_frame.specs.FrameGrammar.{FrameValue, IsFrame, InGrammar, length_word_of, more, spelling};
-ghost use Rattle.ecat_frame.specs.Changed.{changed, put};
+ghost use Rattle.ecat_frame.specs.FrameGrammar.{FrameValue, IsFrame, InGrammar, header_word, length_word_of, more, spelling};
+ghost use Rattle.ecat_frame.specs.Changed.{answered, changed, put};
+ghost use Rattle.ecat_frame.specs.Difference.{first_difference};
 ghost use Rattle.ecat_frame.specs.Reading.{seen};
 
-use crate::bytes::{
-    ADP, MAX_LENGTH, PAYLOAD, data_length, datagrams_in, place_of, write_part, write_word,
-};
+use crate::bytes::{data_length, datagrams_in, place_of, read_word, write_part, write_word};
 use crate::datagram::Datagram;
+use crate::difference::{head_difference, word_difference};
 use crate::error::FrameError;
+use crate::layout::{ADP, FIRST, HEADER, MAX_LENGTH, OVERHEAD, PAYLOAD};
 use crate::scan::check;
 use std::marker::Model;
 
@@ -101,6 +102,40 @@ impl Frame {
         Datagram::read(&self.bytes[at..])
     }
 
+    /// Nothing to run: it says for proofs that every frame is one of the grammar.
+    pub fn in_grammar(&self)
+        ensures { IsFrame self.now }
+    {
+        let _ = self.bytes();
+    }
+
+    /// The first byte at which a reply differs from this frame, which was sent, outside of what may
+    /// change on the way: Ethernet addresses, ADP, circulating bit, IRQ, data, working counters and
+    /// padding. None comes exactly where there is no such byte.
+    pub fn first_difference(&self, reply: &Frame) -> Option<u16>
+        ensures { result ≡ first_difference self.now reply.now }
+    {
+        if let Some(at) = word_difference(self.header_word(), reply.header_word()) {
+            return Some((HEADER + at) as u16);
+        }
+        let mut start = FIRST;
+        for k in 0..self.count().min(reply.count()) {
+            let sent = self.datagram(k);
+            if let Some(at) = head_difference(&sent, &reply.datagram(k)) {
+                return Some((start + at) as u16);
+            }
+            start += OVERHEAD + sent.payload.len();
+        }
+        None
+    }
+
+    fn header_word(&self) -> u16
+        ensures is { result ≡ header_word self.now }
+        ensures valid { IsFrame self.now }
+    {
+        read_word(&self.bytes, HEADER)
+    }
+
     // Where datagram k begins.
     fn place(&self, k: usize) -> usize
         requires { k < length self.now.datagrams }
@@ -155,9 +190,18 @@ impl Frame {
         let start = self.place(k);
         write_part(&mut self.bytes, start + PAYLOAD + at, bytes);
     }
-}
 
-/// A law, with nothing to run: bytes that are those of two frames are those of one.
-pub fn bytes_determine_frame()
-    ensures { (f g : FrameValue) → IsFrame f → IsFrame g → spelling f ≡ spelling g → f ≡ g }
-{}
+    /// Writes the ADP, the data, whose length stays, and the working counter of datagram k: what a slave
+    /// leaves of it.
+    pub fn set_answer(&mut self, k: usize, adp: u16, payload: &[u8], wkc: u16)
+        requires within { k < length self.old.datagrams }
+        requires same_length { IfSome (slice_get self.old.datagrams k)
+            (λ d. length payload.now ≡ length d.payload) }
+        ensures changed { self.new ≡ changed k (answered adp payload.now wkc) self.old }
+        ensures count { length self.new.datagrams ≡ length self.old.datagrams }
+    {
+        self.set_payload(k, payload);
+        self.set_adp(k, adp);
+        self.set_wkc(k, wkc);
+    }
+}

@@ -8,24 +8,26 @@
 //! one field of that record. `spelling` says which bytes the parts are.
 //!
 //! Bytes from outside become a frame by [`Frame::from_bytes`], or are refused at the first byte after
-//! which no frame can follow ([`FrameError`], `specs/Faults.antt`, `specs/Refusals.antt`).
+//! which no frame can follow ([`FrameError`], `specs/Faults.antt`, `specs/Refusals.antt`). What may change
+//! in a frame on its way is wiped by `wiped` of `specs/Difference.antt`, and [`Frame::first_difference`]
+//! compares the rest. [`laws`] has what is true of these definitions.
 #![tactic(auto)]
 
 mod builder;
 mod bytes;
 mod command;
 mod datagram;
+mod difference;
 mod error;
 mod frame;
+pub mod laws;
+mod layout;
 mod place;
 mod scan;
 
 pub use builder::{Builder, Full};
-pub use bytes::MAX_LENGTH;
 pub use command::Command;
 pub use datagram::{Datagram, Head};
 pub use error::FrameError;
-pub use frame::{Frame, bytes_determine_frame};
-
-#[cfg(test)]
-mod tests;
+pub use frame::Frame;
+pub use layout::MAX_LENGTH;

@@ -1,61 +1,66 @@
 //! A frame read byte by byte: where its next byte stands, and which bytes are refused there.
 
 ghost use Rattle.std.specs.Prelude.{◌≡◌, ◌+◌, ◌*◌, ◌<◌, ◌≤◌, IfOk};
-ghost use Rattle.ecat_frame.specs.InsideScan.{IsLive, told};
+ghost use Rattle.ecat_frame.specs.InsideScan.{IsLive, answer_of, place_of, told};
 ghost use Rattle.ecat_frame.specs.Refusals.{after_header, after_length, after_length_low, step};
 
-use crate::bytes::{LENGTH_BITS, MORE};
 use crate::error::FrameError;
+use crate::layout::{
+    DATAGRAMS, FIRST, IRQ, LAST_COMMAND, LENGTH_BITS, MAX_DATAGRAMS, MIN_LENGTH, MORE, OVERHEAD,
+    TYPE_UNIT,
+};
 
-/// The last of the commands.
-const LAST_COMMAND: u16 = 14;
-
-/// The bytes of a datagram beside its data.
-const OVERHEAD: u16 = 12;
-
-/// The bytes of a datagram up to and with its length word.
-const LENGTH_WORD_END: u16 = 8;
-
-/// The most bytes that the datagrams of a frame have.
-const MAX_DATAGRAMS: u16 = 1498;
-
-/// A frame is padded to so many bytes, of which so many stand before the datagrams.
-const PADDED: u16 = 60;
-
-const FIRST: u16 = 16;
-
-/// The type of the header word: datagrams follow.
-const DATAGRAMS: u16 = 1;
-
-/// Where the next byte of a frame stands. `room` is how much padding may follow the datagrams, and
-/// `left` what is left of the header's length from the datagram's first byte on.
+/// Where the next byte of a frame stands, as `Place` of `specs/Refusals.antt` has it. `room` is how much
+/// padding may follow the datagrams, and `left` what is left of the header's length from the datagram's
+/// first byte on.
 #[derive(Clone, Copy)]
 pub(crate) enum Place {
     /// Behind so many of the 14 bytes before the header word.
-    Front { at: u16 },
+    Front {
+        at: usize,
+    },
     /// The first byte of the header word.
     HeaderLow,
     /// Its second byte.
-    HeaderHigh { low: u16 },
+    HeaderHigh {
+        low: u16,
+    },
     /// Behind so many of the six bytes before a datagram's length word.
-    Head { room: u16, left: u16, at: u16 },
+    Head {
+        room: usize,
+        left: usize,
+        at: usize,
+    },
     /// The first byte of the length word.
-    LengthLow { room: u16, left: u16 },
+    LengthLow {
+        room: usize,
+        left: usize,
+    },
     /// Its second byte.
-    LengthHigh { room: u16, left: u16, low: u16 },
+    LengthHigh {
+        room: usize,
+        left: usize,
+        low: u16,
+    },
     /// In the last `body` bytes of a datagram, with `left` behind it.
-    Body { room: u16, left: u16, body: u16 },
+    Body {
+        room: usize,
+        left: usize,
+        body: usize,
+    },
     /// Behind the datagrams.
-    Padding { room: u16 },
+    Padding {
+        room: usize,
+    },
 }
 
 impl Place {
     /// The place behind byte `at` of the frame.
     #[inline]
     pub(crate) fn step(self, at: usize, byte: u8) -> Result<Place, FrameError>
-        requires { IsLive self }
-        ensures step { result ≡ told at (step self byte) }
-        ensures live { IfOk result IsLive }
+        requires { IsLive (place_of self) }
+        ensures step { answer_of result ≡ told at (step (place_of self) byte) }
+        ensures live { IfOk result (λ p. IsLive (place_of p)) }
     {
         let byte = u16::from(byte);
         match self {
@@ -91,17 +96,17 @@ impl Place {
 
 // Behind the header word, whose second byte is byte `at`.
 fn after_header(word: u16, at: usize) -> Result<Place, FrameError>
-    ensures step { result ≡ told at (after_header word) }
-    ensures live { IfOk result IsLive }
+    ensures step { answer_of result ≡ told at (after_header word) }
+    ensures live { IfOk result (λ p. IsLive (place_of p)) }
 {
-    let length = word & LENGTH_BITS;
-    if word / 4096 != DATAGRAMS {
+    let length = usize::from(word & LENGTH_BITS);
+    if word / TYPE_UNIT != DATAGRAMS {
         Err(FrameError::FrameType(at))
     } else if length < OVERHEAD || length > MAX_DATAGRAMS {
         Err(FrameError::Length(at))
     } else {
         Ok(Place::Head {
-            room: PADDED.saturating_sub(FIRST + length),
+            room: MIN_LENGTH.saturating_sub(FIRST + length),
             left: length,
             at: 0,
         })
@@ -110,14 +115,14 @@ fn after_header(word: u16, at: usize) -> Result<Place, FrameError>
 
 // Behind the first byte of a length word. The second adds a multiple of 256 to the data: so where
 // the datagram is too long by this byte alone, or leaves too little for another one, none helps.
-fn after_length_low(room: u16, left: u16, low: u16, at: usize) -> Result<Place, FrameError>
+fn after_length_low(room: usize, left: usize, low: u16, at: usize) -> Result<Place, FrameError>
     requires least { 12 ≤ left }
     requires most { left ≤ 1498 }
     requires byte { low < 256 }
-    ensures step { result ≡ told at (after_length_low room left low) }
-    ensures live { IfOk result IsLive }
+    ensures step { answer_of result ≡ told at (after_length_low room left low) }
+    ensures live { IfOk result (λ p. IsLive (place_of p)) }
 {
-    let least = OVERHEAD + low;
+    let least = OVERHEAD + usize::from(low);
     if least > left {
         Err(FrameError::Length(at))
     } else if least < left && left < least + OVERHEAD {
@@ -128,12 +133,12 @@ fn after_length_low(room: u16, left: u16, low: u16, at: usize) -> Result<Place, 
 }
 
 // Behind the length word, whose second byte is byte `at`.
-fn after_length(room: u16, left: u16, word: u16, at: usize) -> Result<Place, FrameError>
+fn after_length(room: usize, left: usize, word: u16, at: usize) -> Result<Place, FrameError>
     requires { left ≤ 1498 }
-    ensures step { result ≡ told at (after_length room left word) }
-    ensures live { IfOk result IsLive }
+    ensures step { answer_of result ≡ told at (after_length room left word) }
+    ensures live { IfOk result (λ p. IsLive (place_of p)) }
 {
-    let size = OVERHEAD + (word & LENGTH_BITS);
+    let size = OVERHEAD + usize::from(word & LENGTH_BITS);
     let more = word >= MORE;
     if size > left {
         Err(FrameError::Length(at))
@@ -143,7 +148,7 @@ fn after_length(room: u16, left: u16, word: u16, at: usize) -> Result<Place, Fra
         Ok(Place::Body {
             room,
             left: left - size,
-            body: size - LENGTH_WORD_END,
+            body: size - IRQ,
         })
     }
 }

@@ -1,7 +1,7 @@
 ghost use Rattle.std.specs.Prelude.{IfErr, IfOk, OnOk};
 ghost use Rattle.ecat_frame.specs.Faults.{IsFault};
 ghost use Rattle.ecat_frame.specs.FrameGrammar.{InGrammar};
-ghost use Rattle.ecat_frame.specs.InsideScan.{LeadsTo, StopsAt};
+ghost use Rattle.ecat_frame.specs.InsideScan.{LeadsTo, StopsAt, place_of};
 
 use crate::error::FrameError;
 use crate::place::Place;
@@ -19,7 +19,7 @@ pub(crate) fn check(bytes: &[u8]) -> Result<(), FrameError>
 
 // Where the bytes lead, or the first that is refused.
 fn scan(bytes: &[u8]) -> Result<Place, FrameError>
-    ensures leads { IfOk result (LeadsTo bytes.now) }
+    ensures leads { IfOk result (λ p. LeadsTo bytes.now (place_of p)) }
     ensures stops { IfErr result (StopsAt bytes.now) }
 {
     let mut place = Place::Front { at: 0 };

@@ -1,3 +1,4 @@
 pub mod Serving
+pub mod Driving
 pub mod Losses
 mod Repeating

@@ -1,13 +1,16 @@
 -- A frame that is sent a number of times.
-use Rattle.std.proofs.Common.{◌≡◌, ℕ, ◌+◌, ◌<◌, List, [], length, Option, Some, None, refl, ◌∙◌, ap, arith, add-zero}
+use Rattle.std.proofs.Common.{◌≡◌, ℕ, ◌+◌, ◌<◌, nat_lt, if◌then◌else◌, List, [], length, Option, Some, None, refl, ◌∙◌, ap, arith, add-zero}
 use Rattle.std.proofs.lemmas.List.{length_push}
 use Rattle.std.proofs.lemmas.Bool.Decides.{nat_tests}
 use Rattle.ecat_frame.specs.FrameGrammar.{FrameValue}
 use Rattle.ecat_link.specs.Exchanges.{Exchange, StepOf, Follows, lost_among}
-use Rattle.ecat_link.specs.Serves.{Send, End, Serves}
-use Rattle.ecat_link.specs.Repeated.{repeated}
+use Rattle.ecat_link.specs.Serves.{Next, Send, End, Serves}
 use Rattle.ecat_link.proofs.Losses.{lost_then}
 use Rattle.ecat_link.proofs.Serving.{serves_one, serves_then}
+
+-- the script that sends the frame so many times, and answers how often it was lost
+abbrev pub repeated : ℕ → FrameValue → ℕ → List Exchange → Next ℕ
+repeated wait_ns frame times es = if nat_lt (length es) times then Send wait_ns frame else End (lost_among es)
 
 -- n exchanges were made, and k of them were lost
 pub record HasSent (n k : ℕ) (es : List Exchange) : Type 0 where

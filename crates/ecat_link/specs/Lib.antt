@@ -1,5 +1,5 @@
 pub mod Exchanges
 pub mod Serves
+pub mod Drive
 pub mod ScriptState
 pub mod RoseBy
-pub mod Repeated

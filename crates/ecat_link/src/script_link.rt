@@ -75,8 +75,7 @@ impl Link for ScriptLink {
         match self.replies.pop_front().unwrap_or(ScriptReply::Lose) {
             ScriptReply::Lose => {
                 self.lost = self.lost.saturating_add(1);
-                // every `Frame` is of the grammar, as a read of its bytes says
-                prove!(Frame::from_bytes(frame.bytes()).is_ok());
+                frame.in_grammar();
                 Err(Lost)
             }
             ScriptReply::Echo => Ok(()),

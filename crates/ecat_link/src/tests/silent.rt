@@ -20,7 +20,7 @@ impl Link for SilentLink {
 
     fn exchange(&mut self, _wait_ns: u64, frame: &mut Frame) -> Result<(), Lost> {
         self.lost = self.lost.saturating_add(1);
-        prove!(Frame::from_bytes(frame.bytes()).is_ok());
+        frame.in_grammar();
         Err(Lost)
     }
 }

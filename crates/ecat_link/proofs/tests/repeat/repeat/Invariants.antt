@@ -1,8 +1,7 @@
 use Rattle.std.proofs.Common.{◌≡◌, ◌≤◌, []}
-use Rattle.ecat_link.specs.Repeated.{repeated}
 use Rattle.ecat_link.specs.RoseBy.{RoseBy}
 use Rattle.ecat_link.specs.Serves.{Serves}
-use Rattle.ecat_link.proofs.Repeating.{HasSent}
+use Rattle.ecat_link.proofs.Repeating.{HasSent, repeated}
 use Rattle.ecat_link.proofs.tests.repeat.repeat.Given as goal
 
 abbrev pub invariant-loop-sent : goal.invariant-loop-sent

@@ -1,5 +1,5 @@
 use Rattle.ecat_frame.proofs.Injective.{spelling-injective}
-use Rattle.ecat_frame.proofs.frame.bytes_determine_frame.Goals as goal
+use Rattle.ecat_frame.proofs.laws.bytes_determine_frame.Goals as goal
 
 pub returns : goal.returns
 returns c f g w v e = spelling-injective f g w v e
