@@ -12,8 +12,8 @@ use Rattle.cable_tree.specs.Segment.{IsTree, LeadsToRoot}
 use Rattle.cable_tree.specs.FrameOrder.{child, behind, subtree, order, root}
 use Rattle.cable_tree.proofs.Children.{child_is, root_of}
 use Rattle.cable_tree.proofs.Levels.{subtree_is}
-use Rattle.tree_status.specs.Positions.{position_of}
-use Rattle.tree_status.proofs.Standing.{position_at}
+use Rattle.cable_tree.specs.Positions.{position_of}
+use Rattle.cable_tree.proofs.Standing.{position_at}
 
 record IsPiece (xs all : List ℕ) : Type 0 where
   front : List ℕ

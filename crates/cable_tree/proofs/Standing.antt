@@ -9,7 +9,7 @@ use Rattle.cable_tree.specs.Segment.{IsTree}
 use Rattle.cable_tree.specs.FrameOrder.{order}
 use Rattle.cable_tree.proofs.Rising.{order_once}
 use Rattle.cable_tree.proofs.Members.{place_of, order_whole}
-use Rattle.tree_status.specs.Positions.{position_of}
+use Rattle.cable_tree.specs.Positions.{position_of}
 
 module _ (rows : List Row) where
   -- the rows of a list have one position after another, from this one on

@@ -1,5 +1,5 @@
-use Rattle.tree_status.proofs.Renumbered.{is_tree, are_slaves, whole, row_here, places_kept, order_here, children, status_here, span_here, arrive_here, port_time_here, round_trip_here}
-use Rattle.tree_status.proofs.laws.renumbered_is_the_same_tree.Goals as goal
+use Rattle.cable_tree.proofs.Renumbered.{is_tree, are_slaves, whole, row_here, places_kept, order_here, children, span_here, arrive_here, port_time_here, lap_here, round_trip_here}
+use Rattle.cable_tree.proofs.laws.renumbered_is_the_same_tree.Goals as goal
 
 pub returns : goal.returns
 returns c = record {
@@ -10,9 +10,9 @@ returns c = record {
   places = places_kept;
   order = order_here;
   children = children;
-  status = status_here;
   span = span_here;
   arrive = arrive_here;
   port_time = port_time_here;
+  lap = lap_here;
   round_trip = round_trip_here;
 }

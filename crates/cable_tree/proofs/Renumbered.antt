@@ -1,6 +1,6 @@
 -- The rows in frame order, with parents by position, are the same tree.
-use Rattle.std.specs.Prelude.{◌≡◌, ℕ, suc, zero, ◌+◌, ◌*◌, ◌<◌, true, Option, Some, None, MatchOption, List, [], ◌∷◌, ◌++◌, length, map, slice_index}
-use Rattle.std.specs.Option.{is_some, option_map}
+use Rattle.std.specs.Prelude.{◌≡◌, ℕ, suc, zero, ◌+◌, ◌*◌, ◌<◌, Option, Some, None, MatchOption, List, [], ◌∷◌, ◌++◌, length, map, slice_index}
+use Rattle.std.specs.Option.{option_map}
 use Rattle.std.specs.List.{All, range_with_len}
 use Rattle.std.proofs.Common.{arith, refl, sym, ap, ap₂, ◌∙◌, subst, zero-add}
 use Rattle.std.proofs.lemmas.List.{get_or-map, length-map, map-append}
@@ -13,31 +13,26 @@ use Rattle.cable_tree.specs.declared.port.Port.TheVariants.{P1, P2, P3}
 use Rattle.cable_tree.specs.Row.{Row, IsRow, no_row, row_at, above, tp, tf, cable}
 use Rattle.cable_tree.specs.Segment.{IsTree, LeadsToRoot}
 use Rattle.cable_tree.specs.FrameOrder.{child, behind, order_from, order, root}
+use Rattle.cable_tree.specs.Hops.{lap, lap_to}
 use Rattle.cable_tree.specs.PathSums.{detour_to, earlier, span_from, span, arrive_below, arrive_from, arrive, back_from, port_time, round_trip}
 use Rattle.cable_tree.proofs.Children.{at_spot, child_hangs, child_is, root_of}
 use Rattle.cable_tree.proofs.Levels.{none_some, some_same}
 use Rattle.cable_tree.proofs.Members.{order_whole}
 use Rattle.cable_tree.proofs.Rising.{order_within}
-use Rattle.dc_topology.specs.Listed.{Place}
-use Rattle.tree_status.specs.Status.{port_bits, status_of}
-use Rattle.tree_status.specs.Positions.{position_of, by_position, placed, places, renumbered_row, renumbered}
-use Rattle.tree_status.proofs.Standing.{position_at, position_within, order_at}
+use Rattle.cable_tree.specs.Positions.{position_of, by_position, placed, places, renumbered_row, renumbered}
+use Rattle.cable_tree.proofs.Standing.{position_at, position_within, order_at}
 
 -- places by position
-by_none : (rows : List Row) (place : Place) → by_position rows place ≡ None → place ≡ None
+by_none : (rows : List Row) (place : Option Above) → by_position rows place ≡ None → place ≡ None
 by_none rows None e = refl
 by_none rows (Some a) e = absurd (none_some (record { row = position_of rows a.row; port = a.port }) (sym e))
 
-by_some : (rows : List Row) (place : Place) (b : Above) → by_position rows place ≡ Some b
+by_some : (rows : List Row) (place : Option Above) (b : Above) → by_position rows place ≡ Some b
     → (a : Above) × (place ≡ Some a) × (b.row ≡ position_of rows a.row) × (b.port ≡ a.port)
 by_some rows None b e = absurd (none_some b e)
 by_some rows (Some a) b e =
     let same : b ≡ record { row = position_of rows a.row; port = a.port } = sym (some_same e) in
     (a, refl, ap (λ (x : Above). x.row) same, ap (λ (x : Above). x.port) same)
-
-kept_some : (rows : List Row) (o : Option ℕ) → is_some (option_map (position_of rows) o) ≡ is_some o
-kept_some rows None = refl
-kept_some rows (Some k) = refl
 
 module _ (rows : List Row) (tree : IsTree rows) (slaves : All IsRow rows) where
   pub whole : length (renumbered rows) ≡ length rows
@@ -59,11 +54,11 @@ module _ (rows : List Row) (tree : IsTree rows) (slaves : All IsRow rows) where
   above_there : (i : ℕ) → i < length (order rows) → above (renumbered rows) i ≡ by_position rows (above rows (slice_index (order rows) i))
   above_there i within = ap (λ (row : Row). row.above) (row_there i within)
 
-  above_here : (r : ℕ) → r < length rows → above (renumbered rows) (position_of rows r) ≡ by_position rows (above rows r)
+  pub above_here : (r : ℕ) → r < length rows → above (renumbered rows) (position_of rows r) ≡ by_position rows (above rows r)
   above_here r within = ap (λ (row : Row). row.above) (row_here r within)
 
   -- rows and positions are one to one
-  same_row : (q r : ℕ) → q < length rows → r < length rows → position_of rows q ≡ position_of rows r → q ≡ r
+  pub same_row : (q r : ℕ) → q < length rows → r < length rows → position_of rows q ≡ position_of rows r → q ≡ r
   same_row q r lq lr e = sym (order_at rows tree slaves q lq) ∙ ap (slice_index (order rows)) e ∙ order_at rows tree slaves r lr
 
   same_position : (i j : ℕ) → i < length (order rows) → j < length (order rows) → slice_index (order rows) i ≡ slice_index (order rows) j → i ≡ j
@@ -123,7 +118,7 @@ module _ (rows : List Row) (tree : IsTree rows) (slaves : All IsRow rows) where
         (subst (λ j. LeadsToRoot (renumbered rows) (length rows) j) (position_at rows tree slaves i low) there);
   }
 
-  row_kept : (row : Row) (place : Place) → IsRow row → IsRow (record row { above = place })
+  row_kept : (row : Row) (place : Option Above) → IsRow row → IsRow (record row { above = place })
   row_kept row place h = record { tp_some = h.tp_some; tp_most = h.tp_most; tf_some = h.tf_some; tf_most = h.tf_most; cable_most = h.cable_most }
 
   pub are_slaves : All IsRow (renumbered rows)
@@ -238,12 +233,20 @@ module _ (rows : List Row) (tree : IsTree rows) (slaves : All IsRow rows) where
   pub port_time_here : (r : ℕ) → r < length rows → (p : Port) → port_time (renumbered rows) (position_of rows r) p ≡ port_time rows r p
   port_time_here r within p = ap (back_from (renumbered rows)) (children r within p) ∙ back_at (child rows r p) (λ k e. (child_hangs rows r p k e).0)
 
-  pub status_here : (r : ℕ) → r < length rows → status_of (renumbered rows) (position_of rows r) ≡ status_of rows r
-  unfolding status_of
-  status_here r within =
-      let bits : (p : Port) → is_some (child (renumbered rows) (position_of rows r) p) ≡ is_some (child rows r p)
-      = λ p. ap is_some (children r within p) ∙ kept_some rows (child rows r p) in
-      ap₂ (λ x y. x + y) (ap₂ (λ x y. x + y) (ap (λ b. port_bits true 0 + port_bits b 1) (bits P1)) (ap (λ b. port_bits b 2) (bits P2))) (ap (λ b. port_bits b 3) (bits P3))
+  lap_at : (r start : ℕ) → r < length rows → (o : Option ℕ) → ((k : ℕ) → o ≡ Some k → k < length rows)
+      → lap_to (renumbered rows) (position_of rows r) start (option_map (position_of rows) o) ≡ lap_to rows r start o
+  lap_at r start within None known = refl
+  lap_at r start within (Some k) known =
+      let low = known k refl in
+      let first = tp_here r within in
+      let way = cable_here k low in
+      let there = span_here k low in
+      omega (arith, first, way, there)
+
+  pub lap_here : (r : ℕ) → r < length rows → (p : Port) → lap (renumbered rows) (position_of rows r) p ≡ lap rows r p
+  lap_here r within p =
+      ap₂ (lap_to (renumbered rows) (position_of rows r)) (earlier_here r within p) (children r within p)
+      ∙ lap_at r (earlier rows r p) within (child rows r p) (λ k e. (child_hangs rows r p k e).0)
 
   -- the root and the frame order
   root_here : root (renumbered rows) ≡ position_of rows (root rows)
@@ -284,12 +287,15 @@ module _ (rows : List Row) (tree : IsTree rows) (slaves : All IsRow rows) where
       let low' : i < length rows = omega arith in
       get_or-map (position_of rows) (order rows) i 0 0 low ∙ position_at rows tree slaves i low ∙ sym (get_or-range_with_len 0 (length rows) i 0 low' ∙ zero-add i))
 
-  pub order_here : order (renumbered rows) ≡ range_with_len 0 (length rows)
-  order_here =
+  -- each slave stands at its position
+  pub order_moved : order (renumbered rows) ≡ map (position_of rows) (order rows)
+  order_moved =
       ap (order_from (renumbered rows) (length (renumbered rows))) root_here
       ∙ ap (λ n. order_from (renumbered rows) n (position_of rows (root rows))) whole
       ∙ order_levels (length rows) (root rows) (root_of rows tree).0
-      ∙ positions_count
+
+  pub order_here : order (renumbered rows) ≡ range_with_len 0 (length rows)
+  order_here = order_moved ∙ positions_count
 
   pub round_trip_here : round_trip (renumbered rows) ≡ round_trip rows
   round_trip_here =
