@@ -2,7 +2,7 @@
 use Rattle.std.proofs.Common.{ℕ, ◌+◌, ◌<◌, ◌≤◌, List, length, arith}
 use Rattle.std.proofs.lemmas.List.Elements.{All-get_or}
 use Rattle.cable_tree.specs.Row.{Row, IsRow, no_row, cable}
-use Rattle.cable_tree.specs.Kept.{IsSegment}
+use Rattle.cable_tree.specs.Segment.{IsSegment}
 use Rattle.cable_tree.specs.FrameOrder.{root}
 use Rattle.cable_tree.specs.PathSums.{span, arrive}
 use Rattle.cable_tree.proofs.Children.{root_of}

@@ -8,3 +8,7 @@ pub mod Bounds
 pub mod Tables
 pub mod Refused
 pub mod Laps
+pub mod Inside
+pub mod Standing
+pub mod Pieces
+pub mod Renumbered

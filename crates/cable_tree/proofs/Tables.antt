@@ -5,7 +5,8 @@ use borrow.Author.Count.{below_more}
 use Rattle.cable_tree.specs.declared.port.Above.{Above}
 use Rattle.cable_tree.specs.declared.port.Port.{Port}
 use Rattle.cable_tree.specs.Row.{Row, above}
-use Rattle.cable_tree.specs.Kept.{IsSegment, IsTable, ArePlaces}
+use Rattle.cable_tree.specs.Kept.{IsTable, ArePlaces}
+use Rattle.cable_tree.specs.Segment.{IsSegment}
 use Rattle.cable_tree.specs.FrameOrder.{order, child}
 use Rattle.cable_tree.proofs.Rising.{order_once, order_within}
 use Rattle.cable_tree.proofs.Members.{place_of, child_after, parent_before}

@@ -4,7 +4,8 @@ use Rattle.cable_tree.specs.declared.tree.Tree.TheInside.{Inside}
 use Rattle.cable_tree.specs.Row.{Row}
 use Rattle.cable_tree.specs.FrameOrder.{order}
 use Rattle.cable_tree.specs.PathSums.{span, arrive}
-use Rattle.cable_tree.specs.Kept.{IsSegment, ArePlaces, IsTable}
+use Rattle.cable_tree.specs.Kept.{ArePlaces, IsTable}
+use Rattle.cable_tree.specs.Segment.{IsSegment}
 
 abbrev pub rows_of : Inside → List Row
 rows_of fields = fields.wiring

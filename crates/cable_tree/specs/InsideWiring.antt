@@ -3,7 +3,8 @@ use Rattle.std.specs.Prelude.{◌≡◌, List}
 use Rattle.cable_tree.specs.declared.wiring.Wiring.TheInside.{Inside}
 use Rattle.cable_tree.specs.Row.{Row}
 use Rattle.cable_tree.specs.FrameOrder.{root}
-use Rattle.cable_tree.specs.Kept.{IsSegment, AreKids}
+use Rattle.cable_tree.specs.Kept.{AreKids}
+use Rattle.cable_tree.specs.Segment.{IsSegment}
 
 abbrev pub rows_of : Inside → List Row
 rows_of fields = fields.rows.items

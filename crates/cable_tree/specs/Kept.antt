@@ -1,11 +1,9 @@
 -- What the tables of a tree hold.
-use Rattle.std.specs.Prelude.{◌≡◌, ℕ, ◌<◌, ◌≤◌, Option, Some, None, List, length, slice_index, slice_index_or}
-use Rattle.std.specs.List.{All}
+use Rattle.std.specs.Prelude.{◌≡◌, ℕ, ◌<◌, Option, Some, None, List, length, slice_index, slice_index_or}
 use Rattle.cable_tree.specs.declared.port.Port.{Port}
 use Rattle.cable_tree.specs.declared.port.Port.TheVariants.{P1, P2, P3}
 use Rattle.cable_tree.specs.declared.kids.Kids.{Kids}
-use Rattle.cable_tree.specs.Row.{Row, IsRow}
-use Rattle.cable_tree.specs.Segment.{IsTree}
+use Rattle.cable_tree.specs.Row.{Row}
 use Rattle.cable_tree.specs.FrameOrder.{child, order}
 use Rattle.cable_tree.specs.PathSums.{span}
 
@@ -21,12 +19,6 @@ no_kids = record { first = None; second = None; third = None }
 pub record AreKids (rows : List Row) (kids : List Kids) : Type 0 where
   pub whole : length kids ≡ length rows
   pub each : (r : ℕ) (p : Port) → r < length rows → kid_at (slice_index_or kids r no_kids) p ≡ child rows r p
-
--- at most 256 rows of slaves that are a tree
-pub record IsSegment (rows : List Row) : Type 0 where
-  pub tree : IsTree rows
-  pub slaves : All IsRow rows
-  pub few : length rows ≤ 256
 
 -- the table of a number for each row
 pub record IsTable (rows : List Row) (number : ℕ → ℕ) (table : List ℕ) : Type 0 where

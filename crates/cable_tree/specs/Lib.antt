@@ -8,4 +8,5 @@ pub mod Kept
 pub mod InsideWiring
 pub mod InsideTree
 pub mod Hops
+pub mod Positions
 pub mod WalkStack

@@ -1,7 +1,8 @@
 -- When rows are a tree of slaves, by their parents alone.
-use Rattle.std.specs.Prelude.{◌≡◌, ℕ, zero, suc, ◌<◌, Some, None, MatchOption, List, length}
+use Rattle.std.specs.Prelude.{◌≡◌, ℕ, zero, suc, ◌<◌, ◌≤◌, Some, None, MatchOption, List, length}
+use Rattle.std.specs.List.{All}
 use Rattle.cable_tree.specs.declared.port.Above.{Above}
-use Rattle.cable_tree.specs.Row.{Row, above}
+use Rattle.cable_tree.specs.Row.{Row, IsRow, above}
 
 -- of the row, its parent, that one's parent and so on, at most so many of them, one has no parent
 -- (n steps are enough among n rows: a longer way passes a row twice, and so never ends)
@@ -25,3 +26,9 @@ pub record IsTree (rows : List Row) : Type 0 where
   pub ports : (q r : ℕ) (a : Above) → q < length rows → r < length rows → above rows q ≡ Some a → above rows r ≡ Some a → q ≡ r
   -- from every row the parents lead to a root
   pub leads : (r : ℕ) → r < length rows → LeadsToRoot rows (length rows) r
+
+-- a segment: a tree of at most 256 slaves, each within the limits of a row
+pub record IsSegment (rows : List Row) : Type 0 where
+  pub tree : IsTree rows
+  pub slaves : All IsRow rows
+  pub few : length rows ≤ 256

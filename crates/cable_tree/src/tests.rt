@@ -152,4 +152,7 @@ fn laws_are_called(_rt: HostRuntime) {
     laws::hops();
     laws::inside_the_round_trip();
     laws::arrivals_rise();
+    laws::positions();
+    laws::subtrees_stand_together();
+    laws::renumbered_is_the_same_tree();
 }

@@ -2,7 +2,8 @@
 
 ghost use Rattle.std.specs.Prelude.{◌≡◌, ◌≤◌, ◌<◌, length, IfOk, Some, slice_index};
 ghost use Rattle.cable_tree.specs.FrameOrder.{order as order_of};
-ghost use Rattle.cable_tree.specs.Kept.{HasChildSpans, IsSegment, IsTable};
+ghost use Rattle.cable_tree.specs.Kept.{HasChildSpans, IsTable};
+ghost use Rattle.cable_tree.specs.Segment.{IsSegment};
 ghost use Rattle.cable_tree.specs.PathSums.{span, arrive, detour, earlier};
 ghost use Rattle.cable_tree.specs.Row.{above};
 ghost use Rattle.cable_tree.specs.declared.port.Above.{Above};

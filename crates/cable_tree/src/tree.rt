@@ -1,10 +1,9 @@
 ghost use Rattle.std.specs.Prelude.{◌≡◌, ◌⊎◌, ◌<◌, ◌≤◌, length, IfOk, IfErr, IsOk, Ok, Err, slice_index};
 ghost use Rattle.cable_tree.specs.FrameOrder.{order};
-ghost use Rattle.cable_tree.specs.Kept.{IsSegment};
 ghost use Rattle.cable_tree.specs.PathSums.{span, arrive, port_time, round_trip};
 ghost use Rattle.cable_tree.specs.Refusals.{IsRefused, MayAnswer};
 ghost use Rattle.cable_tree.specs.Row.{above};
-ghost use Rattle.cable_tree.specs.Segment.{IsTree};
+ghost use Rattle.cable_tree.specs.Segment.{IsSegment, IsTree};
 ghost use Rattle.cable_tree.specs.declared.error.TreeError.{TreeError};
 
 use crate::error::TreeError;
@@ -86,7 +85,8 @@ impl Tree {
 
     /// The rows in frame order: each slave, and then the subtrees at its ports 3, 1 and 2.
     pub fn order(&self) -> &[u16]
-        ensures { result.now ≡ order self.now }
+        ensures is { result.now ≡ order self.now }
+        ensures valid { IsSegment self.now }
     {
         &self.order
     }

@@ -1,7 +1,7 @@
 ghost use Rattle.std.specs.Prelude.{◌≡◌, ◌<◌, ◌≤◌, length, IfOk, IfErr, IfSome};
 ghost use Rattle.std.specs.List.{All};
 ghost use Rattle.cable_tree.specs.FrameOrder.{child, root};
-ghost use Rattle.cable_tree.specs.Kept.{IsSegment};
+ghost use Rattle.cable_tree.specs.Segment.{IsSegment};
 ghost use Rattle.cable_tree.specs.Refusals.{MayAnswer};
 ghost use Rattle.cable_tree.specs.Row.{IsRow, above, tp, tf, cable};
 

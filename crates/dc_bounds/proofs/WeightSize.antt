@@ -5,9 +5,8 @@ use Rattle.std.proofs.Common.{arith, refl, sym, ◌∙◌, subst}
 use Rattle.cable_tree.specs.declared.port.Above.{Above}
 use Rattle.cable_tree.specs.Row.{Row, above}
 use Rattle.cable_tree.specs.FrameOrder.{order}
-use Rattle.cable_tree.specs.Kept.{IsSegment}
 use Rattle.cable_tree.proofs.Rising.{order_within}
-use Rattle.cable_tree.specs.Segment.{IsTree, LeadsToRoot}
+use Rattle.cable_tree.specs.Segment.{IsSegment, IsTree, LeadsToRoot}
 use Rattle.dc_bounds.specs.Weight.{measuring_from, measuring_within, measuring_parent, has_earlier, has_later, hop_weight, hops_by, hops_within, is_leaf, weight_below, weight_to, weight, meeting, reference}
 
 -- a parent leads to the root in one step less

@@ -5,7 +5,7 @@ ghost use Rattle.osc_clock.specs.Ticks.{Oscillator, IsRunning, ticks};
 ghost use Rattle.dc_bounds.specs.TickBounds.{tick_gap, count_gap, least_ticks, jump};
 ghost use Rattle.dc_bounds.specs.TickFacts.{AreTicksOf, IsNear, IsWithin};
 ghost use Rattle.dc_bounds.specs.LockNumbers.{period_fs};
-ghost use Rattle.cable_tree.specs.Kept.{IsSegment};
+ghost use Rattle.cable_tree.specs.Segment.{IsSegment};
 ghost use Rattle.cable_tree.specs.Row.{Row};
 ghost use Rattle.dc_bounds.specs.Weight.{weight};
 ghost use Rattle.dc_bounds.specs.DelayBound.{delay_bound};

@@ -6,9 +6,10 @@
 //! Every call computes its formula in `specs/`, which are named by the letters that the literature of this
 //! project uses: G, Q and nmin (`TickBounds`), μ, Z and K (`LockNumbers`), B (`DelayBound`), X and W
 //! (`CopyBound`), lead and the frames of a run (`RunNumbers`). None takes memory. What the formulas mean
-//! for clocks is in the [`laws`].
+//! for clocks is in the [`laws`], and that a tree may be told by positions in place of rows in [`by_position`].
 #![tactic(auto)]
 
+pub mod by_position;
 mod copies;
 mod delays;
 pub mod laws;

@@ -1,8 +1,8 @@
--- Rows that differ in their cables alone.
-use Rattle.std.specs.Prelude.{◌≡◌, ℕ, suc, zero, ◌+◌, ◌/◌, Bool, not, nat_le, nat_lt, if◌then◌else◌, Option, Some, None, List, [], ◌∷◌, ◌++◌, drop, filter, length, map}
+-- Rows that hang alike, and rows that differ in their cables alone.
+use Rattle.std.specs.Prelude.{◌≡◌, ℕ, suc, zero, ◌+◌, ◌/◌, Bool, not, nat_le, nat_lt, if◌then◌else◌, Option, Some, None, List, [], ◌∷◌, ◌++◌, drop, filter, length, map, slice_index_or}
 use Rattle.std.specs.List.{find, position, position_or_len}
 use Rattle.std.specs.Option.{is_some}
-use Rattle.std.proofs.Common.{arith, refl, ap, ◌∙◌, cond}
+use Rattle.std.proofs.Common.{arith, refl, sym, ap, ◌∙◌, cond}
 use Rattle.std.proofs.Math.Path.{fun_ext}
 use Rattle.std.proofs.Math.ListN.{get_or-map}
 use Rattle.std.proofs.lemmas.List.{length-map}
@@ -14,10 +14,39 @@ use Rattle.cable_tree.specs.FrameOrder.{is_at, is_nowhere, child, behind, order_
 use Rattle.cable_tree.specs.Hops.{or_before, previous, last_port}
 use Rattle.dc_bounds.specs.Weight.{measuring_from, measuring_within, measuring_parent}
 use Rattle.dc_bounds.specs.Measurable.{branches, leads_from, is_measured_within, is_measurable, unmeasurable}
-use Rattle.dc_delay.specs.ShapeRows.{row_of, rows_of, places_of, kind_of, kinds_of, tp_ns, tf_ns}
+use Rattle.dc_delay.specs.ShapeRows.{hanging, row_of, rows_of, places_of, kind_of, kinds_of, tp_ns, tf_ns}
 use Rattle.dc_delay.specs.MeasuredDelay.{latched_before, forwarding_ns, turn_by, passed_from, passed_within, passed, hop_ahead, hop_back, summed_from, summed_within, summed, ahead, back, delay_from, delay, delays_from, delay_list}
 
--- a row without its cable
+-- the first row that passes a test of where it hangs
+module _ (f : Row → Row) (keeps : (row : Row) → (f row).above ≡ row.above) where
+  first_kept : (test : Option Above → Bool) (rows : List Row) → position_or_len (λ row. test row.above) (map f rows) ≡ position_or_len (λ (row : Row). test row.above) rows
+  first_kept test [] = refl
+  first_kept test (row ∷ rows) =
+      ap (λ o. cond (not (test o)) (1 + position_or_len (λ (row : Row). test row.above) (map f rows)) 0) (keeps row)
+      ∙ ap (λ n. cond (not (test row.above)) (1 + n) 0) (first_kept test rows)
+
+  found_kept : (test : Option Above → Bool) (rows : List Row) → position (λ row. test row.above) (map f rows) ≡ position (λ (row : Row). test row.above) rows
+  found_kept test rows =
+      ap (λ n. cond (nat_lt n (length (map f rows))) (Some n) None) (first_kept test rows)
+      ∙ ap (λ n. cond (nat_lt (position_or_len (λ (row : Row). test row.above) rows) n) (Some (position_or_len (λ (row : Row). test row.above) rows)) None) (length-map rows f)
+
+-- rows that hang alike
+pub record HangAlike (rows others : List Row) : Type 0 where
+  pub whole : length rows ≡ length others
+  pub above : (r : ℕ) → above rows r ≡ above others r
+  pub child : (r : ℕ) (p : Port) → child rows r p ≡ child others r p
+  pub root : root rows ≡ root others
+
+hang_kept : (f : Row → Row) → ((row : Row) → (f row).above ≡ row.above) → f no_row ≡ no_row → (rows : List Row) → HangAlike (map f rows) rows
+unfolding child root
+hang_kept f keeps none rows = record {
+  whole = length-map rows f;
+  above = λ r. ap (λ (row : Row). (slice_index_or (map f rows) r row).above) (sym none) ∙ ap (λ (row : Row). row.above) (get_or-map f rows r no_row) ∙ keeps (slice_index_or rows r no_row);
+  child = λ r p. found_kept f keeps (is_at r p) rows;
+  root = first_kept f keeps is_nowhere rows;
+}
+
+-- a row without its cable, and without all its times
 abbrev bare : Row → Row
 bare row = row_of row.above (kind_of row)
 
@@ -25,36 +54,14 @@ bare_rows : (rows : List Row) → rows_of (places_of rows) (kinds_of rows) ≡ m
 bare_rows [] = refl
 bare_rows (row ∷ rows) = ap (λ xs. bare row ∷ xs) (bare_rows rows)
 
--- the first row that passes a test of where it hangs
-position_bare : (test : Option Above → Bool) (rows : List Row) → position_or_len (λ row. test row.above) (map bare rows) ≡ position_or_len (λ (row : Row). test row.above) rows
-position_bare test [] = refl
-position_bare test (row ∷ rows) = ap (λ n. cond (not (test row.above)) (1 + n) 0) (position_bare test rows)
+abbrev timeless : Row → Row
+timeless row = row_of row.above (record { tp_ns = 0; tf_ns = 0 })
 
-found_bare : (test : Option Above → Bool) (rows : List Row) → position (λ row. test row.above) (map bare rows) ≡ position (λ (row : Row). test row.above) rows
-found_bare test rows =
-    ap (λ n. cond (nat_lt n (length (map bare rows))) (Some n) None) (position_bare test rows)
-    ∙ ap (λ n. cond (nat_lt (position_or_len (λ (row : Row). test row.above) rows) n) (Some (position_or_len (λ (row : Row). test row.above) rows)) None) (length-map rows bare)
+timeless_rows : (rows : List Row) → hanging (places_of rows) ≡ map timeless rows
+timeless_rows [] = refl
+timeless_rows (row ∷ rows) = ap (λ xs. timeless row ∷ xs) (timeless_rows rows)
 
-pub record AreAlike (rows others : List Row) : Type 0 where
-  pub whole : length rows ≡ length others
-  pub above : (r : ℕ) → above rows r ≡ above others r
-  pub tp : (r : ℕ) → tp_ns rows r ≡ tp_ns others r
-  pub tf : (r : ℕ) → tf_ns rows r ≡ tf_ns others r
-  pub child : (r : ℕ) (p : Port) → child rows r p ≡ child others r p
-  pub root : root rows ≡ root others
-
-bare_alike : (rows : List Row) → AreAlike (map bare rows) rows
-unfolding child root
-bare_alike rows = record {
-  whole = length-map rows bare;
-  above = λ r. ap (λ (row : Row). row.above) (get_or-map bare rows r no_row);
-  tp = λ r. ap (λ (row : Row). row.tp_ns) (get_or-map bare rows r no_row);
-  tf = λ r. ap (λ (row : Row). row.tf_ns) (get_or-map bare rows r no_row);
-  child = λ r p. found_bare (is_at r p) rows;
-  root = position_bare is_nowhere rows;
-}
-
-module _ (rows others : List Row) (alike : AreAlike rows others) where
+module _ (rows others : List Row) (alike : HangAlike rows others) where
   previous_same : (r : ℕ) (p : Port) → previous rows r p ≡ previous others r p
   previous_same r P3 = refl
   previous_same r P1 = ap (λ o. or_before P3 o None) (alike.child r P3)
@@ -119,10 +126,6 @@ module _ (rows others : List Row) (alike : AreAlike rows others) where
     passed_same : (number number' : ℕ → ℕ) → number ≡ number' → (r : ℕ) → passed rows measures number r ≡ passed others measures number' r
     passed_same number number' e r = passed_steps number number' e (length rows) r ∙ ap (λ n. passed_within others measures number' n r) alike.whole
 
-    forwarding_same : (r : ℕ) (o : Option Port) → forwarding_ns rows r o ≡ forwarding_ns others r o
-    forwarding_same r None = alike.tp r
-    forwarding_same r (Some q) = alike.tf r
-
     summed_steps : (number number' : Above → ℕ → ℕ) → ((a : Above) (r : ℕ) → number a r ≡ number' a r)
         → (hops r : ℕ) → summed_within rows measures number hops r ≡ summed_within others measures number' hops r
     unfolding summed_within
@@ -140,21 +143,25 @@ module _ (rows others : List Row) (alike : AreAlike rows others) where
         → (r : ℕ) → summed rows measures number r ≡ summed others measures number' r
     summed_same number number' e r = summed_steps number number' e (length rows) r ∙ ap (λ n. summed_within others measures number' n r) alike.whole
 
-    module _ (laps : ℕ → Port → ℕ) where
+    module _ (tp : (r : ℕ) → tp_ns rows r ≡ tp_ns others r) (tf : (r : ℕ) → tf_ns rows r ≡ tf_ns others r) (laps : ℕ → Port → ℕ) where
+      forwarding_same : (r : ℕ) (o : Option Port) → forwarding_ns rows r o ≡ forwarding_ns others r o
+      forwarding_same r None = tp r
+      forwarding_same r (Some q) = tf r
+
       turn_by_same : (r : ℕ) (o : Option Port) → turn_by rows laps r o ≡ turn_by others laps r o
-      turn_by_same r None = alike.tp r
-      turn_by_same r (Some q) = ap (λ n. laps r q + n) (alike.tf r)
+      turn_by_same r None = tp r
+      turn_by_same r (Some q) = ap (λ n. laps r q + n) (tf r)
 
       hop_ahead_same : (a : Above) (r : ℕ) → hop_ahead rows measures laps a r ≡ hop_ahead others measures laps a r
       hop_ahead_same a r =
           let before = ap (latched_before laps a.row) (previous_same a.row a.port) in
           let x = ap (forwarding_ns rows a.row) (previous_same a.row a.port) ∙ forwarding_same a.row (previous others a.row a.port) in
-          let tps = passed_same (tp_ns rows) (tp_ns others) (fun_ext alike.tp) r in
+          let tps = passed_same (tp_ns rows) (tp_ns others) (fun_ext tp) r in
           omega (arith, before, x, tps)
 
       hop_back_same : (a : Above) (r : ℕ) → hop_back rows measures laps a r ≡ hop_back others measures laps a r
       hop_back_same a r =
-          let tfs = passed_same (tf_ns rows) (tf_ns others) (fun_ext alike.tf) r in
+          let tfs = passed_same (tf_ns rows) (tf_ns others) (fun_ext tf) r in
           let s = ap (turn_by rows laps r) (last_same r) ∙ turn_by_same r (last_port others r) in
           omega (arith, tfs, s)
 
@@ -176,17 +183,30 @@ module _ (rows others : List Row) (alike : AreAlike rows others) where
       pub delays_same : (timed : ℕ → Bool) (reference : Option ℕ) (order : List ℕ) → delays_from rows measures timed laps reference order ≡ delays_from others measures timed laps reference order
       delays_same timed reference order = ap (λ (d : ℕ → ℕ). map (λ r. if timed r then Some (d r) else None) order) (fun_ext (delay_same reference))
 
-shape_alike : (rows : List Row) → AreAlike (rows_of (places_of rows) (kinds_of rows)) rows
-shape_alike rows = rw (bare_rows rows) (bare_alike rows)
+module _ (rows : List Row) where
+  bare_alike : HangAlike (map bare rows) rows
+  bare_alike = hang_kept bare (λ row. refl) refl rows
 
-pub shape_order : (rows : List Row) → order (rows_of (places_of rows) (kinds_of rows)) ≡ order rows
-shape_order rows = order_same (rows_of (places_of rows) (kinds_of rows)) rows (shape_alike rows)
+  tp_bare : (r : ℕ) → tp_ns (map bare rows) r ≡ tp_ns rows r
+  tp_bare r = ap (λ (row : Row). row.tp_ns) (get_or-map bare rows r no_row)
 
-pub shape_unmeasurable : (rows : List Row) (measures : ℕ → Bool) (order : List ℕ) → unmeasurable (rows_of (places_of rows) (kinds_of rows)) measures order ≡ unmeasurable rows measures order
-shape_unmeasurable rows measures order = unmeasurable_same (rows_of (places_of rows) (kinds_of rows)) rows (shape_alike rows) measures order
+  tf_bare : (r : ℕ) → tf_ns (map bare rows) r ≡ tf_ns rows r
+  tf_bare r = ap (λ (row : Row). row.tf_ns) (get_or-map bare rows r no_row)
 
-pub shape_delays : (rows : List Row) (measures timed : ℕ → Bool) (laps : ℕ → Port → ℕ) (order : List ℕ) → delay_list (rows_of (places_of rows) (kinds_of rows)) measures timed laps order ≡ delay_list rows measures timed laps order
-shape_delays rows measures timed laps order = delays_same (rows_of (places_of rows) (kinds_of rows)) rows (shape_alike rows) measures laps timed (find timed order) order
+  pub shape_order : order (rows_of (places_of rows) (kinds_of rows)) ≡ order rows
+  shape_order = ap order (bare_rows rows) ∙ order_same (map bare rows) rows bare_alike
 
-pub shape_delay : (rows : List Row) (measures timed : ℕ → Bool) (laps : ℕ → Port → ℕ) (order : List ℕ) (r : ℕ) → delay (rows_of (places_of rows) (kinds_of rows)) measures timed laps order r ≡ delay rows measures timed laps order r
-shape_delay rows measures timed laps order r = delay_same (rows_of (places_of rows) (kinds_of rows)) rows (shape_alike rows) measures laps (find timed order) r
+  pub shape_unmeasurable : (measures : ℕ → Bool) (order : List ℕ) → unmeasurable (hanging (places_of rows)) measures order ≡ unmeasurable rows measures order
+  shape_unmeasurable measures order =
+      ap (λ xs. unmeasurable xs measures order) (timeless_rows rows)
+      ∙ unmeasurable_same (map timeless rows) rows (hang_kept timeless (λ row. refl) refl rows) measures order
+
+  pub shape_delays : (measures timed : ℕ → Bool) (laps : ℕ → Port → ℕ) (order : List ℕ) → delay_list (rows_of (places_of rows) (kinds_of rows)) measures timed laps order ≡ delay_list rows measures timed laps order
+  shape_delays measures timed laps order =
+      ap (λ xs. delay_list xs measures timed laps order) (bare_rows rows)
+      ∙ delays_same (map bare rows) rows bare_alike measures tp_bare tf_bare laps timed (find timed order) order
+
+  pub shape_delay : (measures timed : ℕ → Bool) (laps : ℕ → Port → ℕ) (order : List ℕ) (r : ℕ) → delay (rows_of (places_of rows) (kinds_of rows)) measures timed laps order r ≡ delay rows measures timed laps order r
+  shape_delay measures timed laps order r =
+      ap (λ xs. delay xs measures timed laps order r) (bare_rows rows)
+      ∙ delay_same (map bare rows) rows bare_alike measures tp_bare tf_bare laps (find timed order) r

@@ -48,26 +48,6 @@ measured_step : (rows : List Row) (measures : ℕ → Bool) (n k r : ℕ) → k 
 unfolding is_measured_within
 measured_step rows measures n k r h = let e : n - k ≡ suc (n - (k + 1)) = omega arith in rw e refl
 
-pub measured_end : (rows : List Row) (measures : ℕ → Bool) (n k r : ℕ) → n ≤ k → is_measured_within rows measures (n - k) r ≡ false
-unfolding is_measured_within
-measured_end rows measures n k r h = let e : n - k ≡ 0 = omega arith in rw e refl
-
-pub measured_root : (rows : List Row) (measures : ℕ → Bool) (n k r : ℕ) → k < n → above rows r ≡ None → is_measured_within rows measures (n - k) r ≡ false
-measured_root rows measures n k r h root = measured_step rows measures n k r h ∙ rw root refl
-
-pub measured_here : (rows : List Row) (measures : ℕ → Bool) (n k r : ℕ) (a : Above) → k < n → above rows r ≡ Some a → measures a.row ≡ true
-    → is_measured_within rows measures (n - k) r ≡ true
-measured_here rows measures n k r a h up measured = measured_step rows measures n k r h ∙ rw (up, measured) refl
-
-pub measured_higher : (rows : List Row) (measures : ℕ → Bool) (n k r : ℕ) (a : Above) → k < n → above rows r ≡ Some a → measures a.row ≡ false → branches rows a.row ≡ false
-    → is_measured_within rows measures (n - k) r ≡ is_measured_within rows measures (n - (k + 1)) a.row
-measured_higher rows measures n k r a h up not_measured one = measured_step rows measures n k r h ∙ rw (up, not_measured, one) refl
-
--- a slave with several behind it ends the way
-pub measured_branch : (rows : List Row) (measures : ℕ → Bool) (n k r : ℕ) (a : Above) → k < n → above rows r ≡ Some a → measures a.row ≡ false → branches rows a.row ≡ true
-    → is_measured_within rows measures (n - k) r ≡ false
-measured_branch rows measures n k r a h up not_measured several = measured_step rows measures n k r h ∙ rw (up, not_measured, several) refl
-
 ends : (b m : Bool) → m ≡ false → (not b && m) ≡ false
 ends true m e = refl
 ends false m e = e
@@ -77,7 +57,7 @@ unfolding is_measured_within
 nowhere rows measures zero r astray = refl
 nowhere rows measures (suc left) r astray = rw astray refl
 
--- and one that hangs nowhere does
+-- a slave that is not there ends the way
 pub measured_astray : (rows : List Row) (measures : ℕ → Bool) (n k r : ℕ) (a : Above) → k < n → above rows r ≡ Some a → measures a.row ≡ false → above rows a.row ≡ None
     → is_measured_within rows measures (n - k) r ≡ false
 measured_astray rows measures n k r a h up not_measured astray =

@@ -1,19 +1,17 @@
 -- The table that is gathered from a shape, the kinds and the latches.
-use Rattle.std.specs.Prelude.{◌≡◌, ℕ, suc, zero, ◌+◌, ◌<◌, ◌≤◌, Bool, true, false, ◌||◌, nat_lt, Option, Some, None, List, [], ◌∷◌, length, map, slice_index_or}
-use Rattle.std.specs.List.{range_with_len, list_any, position, position_or_len}
+use Rattle.std.specs.Prelude.{◌≡◌, ℕ, suc, zero, ◌<◌, ◌≤◌, Bool, false, Option, Some, None, List, [], ◌∷◌, length, map, slice_index_or}
+use Rattle.std.specs.List.{range_with_len, list_any}
 use Rattle.std.specs.Option.{is_some}
-use Rattle.std.proofs.Common.{arith, refl, sym, ap, ◌∙◌, inl, inr, cond}
+use Rattle.std.proofs.Common.{arith, refl, sym, ap, ◌∙◌, inl, inr}
 use Rattle.std.proofs.Math.Path.{fun_ext}
 use Rattle.std.proofs.lemmas.Bool.{cases_lt}
-use Rattle.std.proofs.lemmas.Bool.Decides.{nat_tests}
 use Rattle.std.proofs.lemmas.List.{ext_get_or, get_or_past}
 use Rattle.std.proofs.lemmas.List.FromFn.{length-map-range_with_len, get_or-map-range_with_len}
 use Rattle.cable_tree.specs.declared.port.Port.{Port}
 use Rattle.cable_tree.specs.declared.port.Port.TheVariants.{P1, P2, P3}
 use Rattle.cable_tree.specs.Row.{Row, row_at, no_row}
-use Rattle.cable_tree.specs.FrameOrder.{child, is_at}
-use Rattle.dc_bounds.specs.Weight.{is_connected}
-use Rattle.dc_bounds.specs.Measurable.{unmeasurable}
+use Rattle.cable_tree.specs.FrameOrder.{is_at}
+use Rattle.dc_bounds.specs.Weight.{flag, is_connected}
 use Rattle.dc_topology.specs.Listed.{Place}
 use Rattle.dc_delay.specs.declared.kind.Kind.{Kind}
 use Rattle.dc_delay.specs.declared.latch.Latch.{Latch}
@@ -22,38 +20,8 @@ use Rattle.dc_delay.specs.ShapeRows.{row_of, rows_of}
 use Rattle.dc_delay.specs.Latched.{lap_of, laps, measures}
 use Rattle.dc_delay.specs.MeasuredDelay.{delays_from}
 use Rattle.dc_delay.specs.Table.{IsOf, IsTable, no_slave, slave_at, row_of_slave, table_rows, table_measures, table_laps, connected_at, told}
+use Rattle.dc_delay.proofs.Hung.{connected, places_told}
 use Rattle.dc_delay.proofs.Tables.{table_length, table_row}
-
-nat_lt_suc : (a b : ℕ) → nat_lt (1 + a) (suc b) ≡ nat_lt a b
-nat_lt_suc a b = grind (arith, nat_tests)
-
--- a test finds a place exactly where it passes at some element
-prefix_cons : (test : Row → Bool) (x : Row) (xs : List Row) (b : Bool) → test x ≡ b → nat_lt (position_or_len test xs) (length xs) ≡ list_any test xs
-    → nat_lt (position_or_len test (x ∷ xs)) (length (x ∷ xs)) ≡ list_any test (x ∷ xs)
-prefix_cons test x xs true e more = rw e (let less : nat_lt 0 (suc (length xs)) ≡ true = grind (arith, nat_tests) in less)
-prefix_cons test x xs false e more = rw e (nat_lt_suc (position_or_len test xs) (length xs) ∙ more)
-
-prefix_found : (test : Row → Bool) (rows : List Row) → nat_lt (position_or_len test rows) (length rows) ≡ list_any test rows
-prefix_found test [] = refl
-prefix_found test (x ∷ xs) = prefix_cons test x xs (test x) refl (prefix_found test xs)
-
-is_some_cond : (b : Bool) (k : ℕ) → is_some (cond b (Some k) None) ≡ b
-is_some_cond true k = refl
-is_some_cond false k = refl
-
-found : (test : Row → Bool) (rows : List Row) → is_some (position test rows) ≡ list_any test rows
-found test rows = is_some_cond (nat_lt (position_or_len test rows) (length rows)) (position_or_len test rows) ∙ prefix_found test rows
-
-hangs : (r : ℕ) (p : Port) (places : List Place) (kinds : List Kind) → length kinds ≡ length places
-    → list_any (λ row. is_at r p row.above) (rows_of places kinds) ≡ list_any (is_at r p) places
-hangs r p [] kinds e = refl
-hangs r p (place ∷ places) [] e = absurd (omega arith)
-hangs r p (place ∷ places) (kind ∷ kinds) e = ap (λ b. is_at r p place || b) (hangs r p places kinds (omega arith))
-
-connected : (r : ℕ) (p : Port) (places : List Place) (kinds : List Kind) → length kinds ≡ length places
-    → is_connected (rows_of places kinds) r p ≡ list_any (is_at r p) places
-unfolding child
-connected r p places kinds e = found (λ row. is_at r p row.above) (rows_of places kinds) ∙ hangs r p places kinds e
 
 rows_length : (places : List Place) (kinds : List Kind) → length kinds ≡ length places → length (rows_of places kinds) ≡ length places
 rows_length [] kinds e = refl
@@ -117,7 +85,7 @@ module _ (places : List Place) (kinds : List Kind) (latches : List (Option Latch
     each = λ r p within.
         ap (λ (s : Slave). connected_at s.connected p) (slave_told r (omega (arith, within, whole)))
         ∙ ports_told r p
-        ∙ sym (connected r p places kinds same_kinds)
+        ∙ sym (connected (rows_of places kinds) r p ∙ ap (list_any (is_at r p)) (places_told places kinds same_kinds))
         ∙ ap (λ rows. is_connected rows r p) (sym rows_same);
   }
 
@@ -138,8 +106,17 @@ delays_same places kinds latches slaves timed reference order is =
     ∙ ap (λ (m : ℕ → Bool). delays_from (rows_of places kinds) m timed (table_laps slaves) reference order) is.measures
     ∙ ap (λ (l : ℕ → Port → ℕ). delays_from (rows_of places kinds) (measures latches) timed l reference order) is.laps
 
-pub unmeasurable_same : (places : List Place) (kinds : List Kind) (latches : List (Option Latch)) (slaves : List Slave) (order : List ℕ)
-    → IsOf places kinds latches slaves → unmeasurable (table_rows slaves) (table_measures slaves) order ≡ unmeasurable (rows_of places kinds) (measures latches) order
-unmeasurable_same places kinds latches slaves order is =
-    ap (λ rows. unmeasurable rows (table_measures slaves) order) is.rows
-    ∙ ap (λ (m : ℕ → Bool). unmeasurable (rows_of places kinds) m order) is.measures
+-- the flags of the slaves that measure
+module _ (latches : List (Option Latch)) (flags : List Bool) (k : ℕ) (last : length latches ≤ k) (within : k ≤ length latches) (is : flags ≡ map (measures latches) (range_with_len 0 k)) where
+  all : flags ≡ map (measures latches) (range_with_len 0 (length latches))
+  all = is ∙ ap (λ n. map (measures latches) (range_with_len 0 n)) (let e : k ≡ length latches = omega arith in e)
+
+  pub flags_whole : length flags ≡ length latches
+  flags_whole = ap length all ∙ length-map-range_with_len (measures latches) 0 (length latches)
+
+  pub flags_gathered : flag flags ≡ measures latches
+  flags_gathered = fun_ext (λ r.
+      elim (cases_lt r (length latches)) [
+        | inl lt ↦ ap (λ xs. flag xs r) all ∙ get_or-map-range_with_len (measures latches) 0 (length latches) r r false lt (omega arith)
+        | inr le ↦ get_or_past flags r false (omega (arith, flags_whole)) ∙ sym (ap is_some (get_or_past latches r None le))
+      ])

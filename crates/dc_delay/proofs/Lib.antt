@@ -1,5 +1,6 @@
 pub mod Climbing
 pub mod Finding
+pub mod Hung
 pub mod Tables
 pub mod Recursions
 pub mod TrueHops
@@ -11,3 +12,4 @@ pub mod Readings
 pub mod AddedUp
 pub mod Listing
 pub mod Gathered
+pub mod ByPosition

@@ -6,14 +6,12 @@ use Rattle.std.proofs.lemmas.Bool.{cases_lt}
 use Rattle.std.proofs.lemmas.Nat.{pow_pos}
 use Rattle.std.proofs.Math.Nat.{mod-add-mod, mod-eq_of_lt, add-mul-mod_self_left}
 use Rattle.cable_tree.specs.declared.port.Port.{Port}
-use Rattle.cable_tree.specs.declared.port.Port.TheVariants.{P1, P2, P3}
 use Rattle.cable_tree.specs.Row.{Row, IsRow}
 use Rattle.cable_tree.specs.Segment.{IsTree}
 use Rattle.cable_tree.specs.FrameOrder.{child}
-use Rattle.cable_tree.specs.PathSums.{detour_to, earlier, round_trip, span}
-use Rattle.cable_tree.specs.Hops.{lap, lap_to}
-use Rattle.cable_tree.proofs.Levels.{span_is}
-use Rattle.cable_tree.proofs.Members.{inside}
+use Rattle.cable_tree.specs.PathSums.{round_trip}
+use Rattle.cable_tree.specs.Hops.{lap}
+use Rattle.cable_tree.proofs.Inside.{lap_inside}
 use Rattle.osc_clock.specs.Ticks.{Oscillator, IsRunning, ticks}
 use Rattle.osc_clock.proofs.TickLaws.{ticks_rise}
 use Rattle.dc_bounds.specs.TickBounds.{tick_gap}
@@ -32,30 +30,8 @@ wrapped m x k some below =
 latched_rise : (x k : ℕ) → k < 4294967296 → latched ((x + k) % 2 ^ 32) (x % 2 ^ 32) ≡ k
 latched_rise x k small = wrapped (2 ^ 32) x k (pow_pos 32) small
 
-module _ (rows : List Row) (tree : IsTree rows) where
-  -- a lap is a part of the span
-  lap_spans : (r : ℕ) (p : Port) (k : ℕ) → r < length rows → child rows r p ≡ Some k → lap rows r p ≤ span rows r
-  lap_spans r P3 k within e =
-      let is = span_is rows tree r within in
-      let this = ap (lap_to rows r (earlier rows r P3)) e in
-      let way = ap (detour_to rows (span rows) r) e in
-      omega (arith, is, this, way)
-  lap_spans r P1 k within e =
-      let is = span_is rows tree r within in
-      let this = ap (lap_to rows r (earlier rows r P1)) e in
-      let way = ap (detour_to rows (span rows) r) e in
-      omega (arith, is, this, way)
-  lap_spans r P2 k within e =
-      let is = span_is rows tree r within in
-      let this = ap (lap_to rows r (earlier rows r P2)) e in
-      let way = ap (detour_to rows (span rows) r) e in
-      omega (arith, is, this, way)
-
-  lap_inside : All IsRow rows → (r : ℕ) (p : Port) (k : ℕ) → r < length rows → child rows r p ≡ Some k → lap rows r p ≤ round_trip rows
-  lap_inside slaves r p k within e =
-      let part = lap_spans r p k within e in
-      let all = inside rows tree slaves r within in
-      omega (arith, part, all)
+lap_short : (rows : List Row) → IsTree rows → All IsRow rows → (r : ℕ) (p : Port) (k : ℕ) → r < length rows → child rows r p ≡ Some k → lap rows r p ≤ round_trip rows
+lap_short rows tree slaves r p k within e = let part = lap_inside rows tree slaves r p k within e in omega (arith, part)
 
 -- the ticks from one instant to a later one
 module _ (o : Oscillator) (ppm : ℕ) (running : IsRunning o) (small : ppm ≤ 100) (steady : IsWithin ppm o) (start limit : ℕ) where
@@ -89,10 +65,10 @@ readings_are_latched rows o ppm x t r laps tree slaves within running small stea
     = since_near o ppm running small steady t limit in
     let rise : (p : Port) (k : ℕ) → child rows r p ≡ Some k → laps r p ≡ 10 * since o ppm running small steady t limit (lap rows r p)
     = λ p k e. readings p k e ∙ latched_rise x (10 * since o ppm running small steady t limit (lap rows r p))
-    (since_few o ppm running small steady t limit (lap rows r p) (lap_inside rows tree slaves r p k within e) (omega arith)) in
+    (since_few o ppm running small steady t limit (lap rows r p) (lap_short rows tree slaves r p k within e) (omega arith)) in
     record {
       each = λ p j e.
-          let n = near 0 (lap rows r p) (omega arith) (lap_inside rows tree slaves r p j within e) in
+          let n = near 0 (lap rows r p) (omega arith) (lap_short rows tree slaves r p j within e) in
           let none : since o ppm running small steady t limit 0 ≡ 0 = (let start : ticks o (t + 0) ≡ ticks o t = ap (ticks o) (omega arith) in omega (arith, start)) in
           let is = rise p j e in
           record { above = omega (arith, n.above, n.below, none, is); below = omega (arith, n.above, n.below, none, is) };
@@ -101,10 +77,10 @@ readings_are_latched rows o ppm x t r laps tree slaves within running small stea
           let eq = rise q k f in
           elim (cases_lt (lap rows r q) (lap rows r p)) [
             | inl lt ↦
-                let n = near (lap rows r q) (lap rows r p) (omega arith) (lap_inside rows tree slaves r p j within e) in
+                let n = near (lap rows r q) (lap rows r p) (omega arith) (lap_short rows tree slaves r p j within e) in
                 record { above = omega (arith, n.above, ep, eq); below = omega (arith, n.below, ep, eq) }
             | inr le ↦
-                let n = near (lap rows r p) (lap rows r q) le (lap_inside rows tree slaves r q k within f) in
+                let n = near (lap rows r p) (lap rows r q) le (lap_short rows tree slaves r q k within f) in
                 record { above = omega (arith, n.below, ep, eq); below = omega (arith, n.above, ep, eq) }
           ];
     }

@@ -5,8 +5,8 @@ use Rattle.cable_tree.specs.declared.port.Port.{Port}
 use Rattle.cable_tree.specs.Row.{Row}
 use Rattle.cable_tree.specs.FrameOrder.{child}
 use Rattle.cable_tree.specs.Hops.{lap}
-use Rattle.osc_clock.specs.Ticks.{Oscillator, ticks}
-use Rattle.dc_bounds.specs.TickFacts.{IsNear}
+use Rattle.osc_clock.specs.Ticks.{Oscillator, IsRunning, ticks}
+use Rattle.dc_bounds.specs.TickFacts.{IsNear, IsWithin}
 use Rattle.dc_bounds.specs.Weight.{measuring_parent}
 use Rattle.dc_bounds.specs.Measurable.{is_measurable}
 use Rattle.dc_delay.specs.Latched.{latched}
@@ -25,6 +25,15 @@ AreAllLatched rows measures g laps = (r : ℕ) → r < length rows → measures 
 abbrev pub AreReadings : List Row → Oscillator → ℕ → ℕ → ℕ → (ℕ → Port → ℕ) → Type 0
 AreReadings rows o x t r laps = (p : Port) (k : ℕ) → child rows r p ≡ Some k
     → laps r p ≡ latched ((x + 10 * (ticks o (t + lap rows r p) - ticks o t)) % 2 ^ 32) (x % 2 ^ 32)
+
+-- it is so by some clock within a ppm
+pub record AreOfClock (rows : List Row) (ppm r : ℕ) (laps : ℕ → Port → ℕ) : Type 0 where
+  pub osc : Oscillator
+  pub stood : ℕ
+  pub time : ℕ
+  pub runs : IsRunning osc
+  pub steady : IsWithin ppm osc
+  pub readings : AreReadings rows osc stood time r laps
 
 -- each measuring slave that has a measuring parent can be measured from it
 abbrev pub AreMeasurable : List Row → (ℕ → Bool) → Type 0

@@ -1,4 +1,4 @@
--- The delays that a master computes from latched times, in ns: whole sums without wrap, halved once at the end.
+-- The delays that a master computes from latched times, in ns, by this project's rule: whole sums without wrap, halved once at the end.
 -- Every definition takes L of a slave and port as `laps`.
 use Rattle.std.specs.Prelude.{ℕ, zero, suc, ◌+◌, ◌-◌, ◌/◌, Bool, if◌then◌else◌, Option, Some, None, List, length, map}
 use Rattle.std.specs.List.{find}

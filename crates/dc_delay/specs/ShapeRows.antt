@@ -13,6 +13,10 @@ rows_of [] kinds = []
 rows_of (place ∷ places) [] = []
 rows_of (place ∷ places) (kind ∷ kinds) = row_of place kind ∷ rows_of places kinds
 
+-- a shape alone, as rows that keep a frame for no time
+abbrev pub hanging : List Place → List Row
+hanging places = map (λ place. row_of place (record { tp_ns = 0; tf_ns = 0 })) places
+
 -- where a row hangs, and its forwarding delays
 abbrev pub places_of : List Row → List Place
 places_of rows = map (λ (row : Row). row.above) rows

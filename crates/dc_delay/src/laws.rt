@@ -3,7 +3,7 @@
 //! of `specs/LatchLaw.antt`), whose bound `g` of one difference of two latches is a parameter: so the
 //! laws hold too where slaves only measure, and where clocks correct while they are measured.
 
-ghost use Rattle.std.specs.Prelude.{◌≡◌, ℕ, ◌+◌, ◌-◌, ◌*◌, ◌/◌, ◌<◌, ◌≤◌, ◌^◌, Bool, true, Some, None, List, length};
+ghost use Rattle.std.specs.Prelude.{◌≡◌, ℕ, ◌+◌, ◌-◌, ◌*◌, ◌/◌, ◌<◌, ◌≤◌, ◌^◌, Bool, true, false, Some, None, List, length, slice_index_or};
 ghost use Rattle.std.specs.List.{All};
 ghost use Rattle.cable_tree.specs.FrameOrder.{order};
 ghost use Rattle.cable_tree.specs.PathSums.{arrive, round_trip, span};
@@ -18,7 +18,7 @@ ghost use Rattle.dc_bounds.specs.TickFacts.{IsNear, IsWithin};
 ghost use Rattle.dc_bounds.specs.Weight.{hops_within, is_over, reference, weight, weight_below};
 ghost use Rattle.dc_delay.specs.LatchLaw.{AreAllLatched, AreLatched, AreMeasurable, AreReadings};
 ghost use Rattle.dc_delay.specs.MeasuredDelay.{ahead, back, delay, delay_list, turn};
-ghost use Rattle.dc_delay.specs.ShapeRows.{kinds_of, places_of, rows_of};
+ghost use Rattle.dc_delay.specs.ShapeRows.{hanging, kinds_of, places_of, positions, rows_of};
 
 /// The readings of a clock that does not correct, at the instants at which a frame passes its slave, meet
 /// the latch law with G of the round trip: whatever the clock showed, and at whatever time the frame came.
@@ -73,14 +73,25 @@ pub fn measured_delays_are_near()
         (delay_bound ppm (weight rows measures timed r) (round_trip rows)) }
 {}
 
-/// A shape and the kinds of its slaves tell all that the delays need of a tree: they have its frame order,
-/// its unmeasurable slave and its delays.
+/// A shape and the kinds of its slaves tell all that the delays need of a tree: they have its frame order
+/// and its delays. The shape alone has its unmeasurable slave.
 pub fn cables_do_not_matter()
     ensures order { (rows : List Row) → order (rows_of (places_of rows) (kinds_of rows)) ≡ order rows }
     ensures unmeasurable { (rows : List Row) (measures : ℕ → Bool) (order : List ℕ)
-        → unmeasurable (rows_of (places_of rows) (kinds_of rows)) measures order ≡ unmeasurable rows measures order }
+        → unmeasurable (hanging (places_of rows)) measures order ≡ unmeasurable rows measures order }
     ensures delays { (rows : List Row) (measures timed : ℕ → Bool) (laps : ℕ → Port → ℕ) (order : List ℕ)
         → delay_list (rows_of (places_of rows) (kinds_of rows)) measures timed laps order ≡ delay_list rows measures timed laps order }
     ensures delay { (rows : List Row) (measures timed : ℕ → Bool) (laps : ℕ → Port → ℕ) (order : List ℕ) (r : ℕ)
         → delay (rows_of (places_of rows) (kinds_of rows)) measures timed laps order r ≡ delay rows measures timed laps order r }
+{}
+
+/// The list that [`delays`](crate::delays) answers has one entry for each position: the measured delay at a
+/// timed slave, and none at every other one.
+pub fn entries_of_the_list()
+    ensures whole { (rows : List Row) (measures timed : ℕ → Bool) (laps : ℕ → Port → ℕ) (n : ℕ)
+        → length (delay_list rows measures timed laps (positions n)) ≡ n }
+    ensures timed { (rows : List Row) (measures timed : ℕ → Bool) (laps : ℕ → Port → ℕ) (n i : ℕ) → i < n → timed i ≡ true
+        → slice_index_or (delay_list rows measures timed laps (positions n)) i None ≡ Some (delay rows measures timed laps (positions n) i) }
+    ensures other { (rows : List Row) (measures timed : ℕ → Bool) (laps : ℕ → Port → ℕ) (n i : ℕ) → i < n → timed i ≡ false
+        → slice_index_or (delay_list rows measures timed laps (positions n)) i None ≡ None }
 {}

@@ -1,5 +1,4 @@
-ghost use Rattle.std.specs.Prelude.{◌≡◌, ◌<◌, ◌≤◌, ◌^◌, ◌+◌, ◌-◌, ◌/◌, [], length, Err, IfErr, IfSome, OnErr, OnOk, Some};
-ghost use Rattle.std.specs.List.{find};
+ghost use Rattle.std.specs.Prelude.{◌≡◌, ◌<◌, ◌≤◌, ◌^◌, ◌+◌, ◌-◌, ◌/◌, [], length, Err, IfErr, OnErr, OnOk, Some};
 ghost use Rattle.dc_bounds.specs.Weight.{flag};
 ghost use Rattle.dc_delay.specs.Latched.{laps, measures};
 ghost use Rattle.dc_delay.specs.MeasuredDelay.{delay_list, delays_from};
@@ -9,9 +8,9 @@ ghost use Rattle.dc_delay.specs.Table.{IsTable, table_laps, table_measures, tabl
 ghost use Rattle.dc_delay.specs.declared.error.DelayError.{DelayError as Error};
 
 use crate::error::DelayError;
+use crate::judgement::reference;
 use crate::kind::Kind;
 use crate::latch::Latch;
-use crate::measurable::first_unmeasurable;
 use crate::slave::Slave;
 use crate::table::table;
 use crate::ways::{Sums, way};
@@ -23,8 +22,8 @@ pub type DelayList = ArrayVec<Option<u64>, 256>;
 
 /// The delays of the clocks, in ns: how much later than at the reference, which is the first clock in
 /// frame order, the frame came to each of them, by the latched times. A slave measures where it has a
-/// latch, and is a clock where it is timed. The numbers are delays where every clock measures. After a
-/// refusal `out` is empty.
+/// latch, and is a clock where it is timed. The numbers are delays where every clock measures. It refuses
+/// what [`judge`](crate::judge) refuses, and then `out` is empty.
 pub fn delays(
     shape: &Shape,
     kinds: &[Kind],
@@ -37,21 +36,35 @@ pub fn delays(
     requires timed { length timed.now ≡ length shape.now }
     ensures ok { OnOk result (out.new.items
         ≡ delay_list (rows_of shape.now kinds.now) (measures latches.now) (flag timed.now) (laps latches.now) (positions (length shape.now))) }
-    ensures refused { IfErr result (IsRefused (rows_of shape.now kinds.now) (measures latches.now) (flag timed.now) (positions (length shape.now))) }
-    ensures exactly { (e : Error) → IsRefused (rows_of shape.now kinds.now) (measures latches.now) (flag timed.now) (positions (length shape.now)) e
-        → result ≡ Err e }
+    ensures refused { IfErr result (IsRefused shape.now (measures latches.now) (flag timed.now)) }
+    ensures exactly { (e : Error) → IsRefused shape.now (measures latches.now) (flag timed.now) e → result ≡ Err e }
     ensures empty { OnErr result (out.new.items ≡ []) }
 {
     out.clear();
     let slaves = table(shape, kinds, latches);
-    let Some(reference) = first_timed(timed) else {
-        return Err(DelayError::NoReference);
-    };
-    if let Some(position) = first_unmeasurable(&slaves) {
-        return Err(DelayError::Unmeasurable(position));
-    }
+    let reference = reference(shape, &measuring(latches), timed)?;
     put_delays(&slaves, timed, reference, out);
     Ok(())
+}
+
+// Which slaves measure: those with a latch.
+fn measuring(latches: &[Option<Latch>]) -> ArrayVec<bool, 256>
+    requires { length latches.now ≤ 256 }
+    ensures whole { length result.items ≡ length latches.now }
+    ensures is { flag result.items ≡ measures latches.now }
+{
+    let mut measuring = ArrayVec::new();
+    for position in 0..latches.len() {
+        measuring.push(measures(latches, position));
+    }
+    measuring
+}
+
+fn measures(latches: &[Option<Latch>], position: usize) -> bool
+    requires { position < length latches.now }
+    ensures { result ≡ measures latches.now position }
+{
+    latches[position].is_some()
 }
 
 // Puts the delays from a reference into an empty list.
@@ -71,20 +84,6 @@ fn put_delays(slaves: &[Slave], timed: &[bool], reference: u16, out: &mut DelayL
             None
         });
     }
-}
-
-// The position of the first clock.
-fn first_timed(timed: &[bool]) -> Option<u16>
-    requires { length timed.now ≤ 256 }
-    ensures is { result ≡ find (flag timed.now) (positions (length timed.now)) }
-    ensures within { IfSome result (λ r. r < length timed.now) }
-{
-    for (position, is_timed) in timed.iter().enumerate() {
-        if *is_timed {
-            return Some(position as u16);
-        }
-    }
-    None
 }
 
 // Half of the way to a slave less that to the reference, rounded down, and 0 where it is negative.

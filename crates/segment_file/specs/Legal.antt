@@ -3,7 +3,7 @@ use Rattle.std.specs.Prelude.{◌≡◌, ℕ, ◌<◌, ◌≤◌, true, [], leng
 use Rattle.std.specs.List.{All}
 use Rattle.serde_json.specs.Data.{Data}
 use Rattle.osc_clock.specs.Ticks.{AreRising}
-use Rattle.cable_tree.specs.Kept.{IsSegment}
+use Rattle.cable_tree.specs.Segment.{IsSegment}
 use Rattle.segment_shape.specs.Slaves.{measures, greatest_start}
 use Rattle.segment_shape.specs.Ranges.{IsHead, IsRate, IsLoss}
 use Rattle.segment_shape.specs.Twice.{first_again}

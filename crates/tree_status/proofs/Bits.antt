@@ -1,10 +1,14 @@
 -- What a status tells of the ports.
-use Rattle.std.specs.Prelude.{◌≡◌, ℕ, zero, suc, ◌+◌, ◌*◌, ◌<◌, Bool, true, false, not, ◌&&◌, Option, Some, None, List}
-use Rattle.std.specs.Option.{is_some}
-use Rattle.std.proofs.Common.{◌≤◌, lit≤, arith, refl, ap₂, ◌∙◌}
+use Rattle.std.specs.Prelude.{◌≡◌, ℕ, zero, suc, ◌+◌, ◌*◌, ◌<◌, Bool, true, false, not, ◌&&◌, Option, Some, None, List, length}
+use Rattle.std.specs.List.{All}
+use Rattle.std.specs.Option.{is_some, option_map}
+use Rattle.std.proofs.Common.{◌≤◌, lit≤, arith, refl, ap, ap₂, ◌∙◌}
 use Rattle.cable_tree.specs.declared.port.Port.{Port}
 use Rattle.cable_tree.specs.declared.port.Port.TheVariants.{P1, P2, P3}
-use Rattle.cable_tree.specs.Row.{Row}
+use Rattle.cable_tree.specs.Row.{Row, IsRow}
+use Rattle.cable_tree.specs.Segment.{IsTree}
+use Rattle.cable_tree.specs.Positions.{position_of, renumbered}
+use Rattle.cable_tree.proofs.Renumbered.{children}
 use Rattle.cable_tree.specs.FrameOrder.{child}
 use Rattle.cable_tree.specs.PathSums.{back_from}
 use Rattle.dc_topology.specs.DlStatus.{bit, is_connected, is_closed, is_formed}
@@ -80,6 +84,18 @@ module _ (rows : List Row) (r : ℕ) where
   low (suc (suc zero)) less = all_told.low.2
   low (suc (suc (suc zero))) less = all_told.low.3
   low (suc (suc (suc (suc n)))) less = absurd (omega arith)
+
+-- the same rows by position show the same
+kept_some : (rows : List Row) (o : Option ℕ) → is_some (option_map (position_of rows) o) ≡ is_some o
+kept_some rows None = refl
+kept_some rows (Some k) = refl
+
+pub status_here : (rows : List Row) → IsTree rows → All IsRow rows → (r : ℕ) → r < length rows → status_of (renumbered rows) (position_of rows r) ≡ status_of rows r
+unfolding status_of
+status_here rows tree slaves r within =
+    let bits : (p : Port) → is_some (child (renumbered rows) (position_of rows r) p) ≡ is_some (child rows r p)
+    = λ p. ap is_some (children rows tree slaves r within p) ∙ kept_some rows (child rows r p) in
+    ap₂ (λ x y. x + y) (ap₂ (λ x y. x + y) (ap (λ b. port_bits true 0 + port_bits b 1) (bits P1)) (ap (λ b. port_bits b 2) (bits P2))) (ap (λ b. port_bits b 3) (bits P3))
 
 -- a frame comes back into a port exactly where a slave hangs there
 pub comes_back : (rows : List Row) (o : Option ℕ) → is_some (back_from rows o) ≡ is_some o

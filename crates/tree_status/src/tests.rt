@@ -74,8 +74,6 @@ fn a_tree_is_found_again(rt: HostRuntime) {
 #[test]
 fn calls_the_laws(_rt: HostRuntime) {
     laws::status_tells_ports();
-    laws::positions();
-    laws::subtrees_stand_together();
     laws::statuses_list_the_tree();
-    laws::renumbered_is_the_same_tree();
+    laws::renumbered_shows_the_same();
 }

@@ -1,5 +1,5 @@
 use Rattle.std.proofs.Common.{◌≡◌, ◌<◌, ◌-◌, length}
-use Rattle.cable_tree.specs.Kept.{IsSegment}
+use Rattle.cable_tree.specs.Segment.{IsSegment}
 use Rattle.dc_bounds.specs.Measurable.{is_measured_within}
 use Rattle.dc_bounds.specs.Weight.{flag}
 use Rattle.dc_bounds.proofs.measurable.is_measurable.Given as goal

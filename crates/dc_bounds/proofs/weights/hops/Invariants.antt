@@ -1,5 +1,5 @@
 use Rattle.std.proofs.Common.{◌≡◌, ◌<◌, ◌≤◌, ◌*◌, ◌+◌, ◌-◌, length}
-use Rattle.cable_tree.specs.Kept.{IsSegment}
+use Rattle.cable_tree.specs.Segment.{IsSegment}
 use Rattle.dc_bounds.specs.Weight.{flag, hops_within}
 use Rattle.dc_bounds.proofs.weights.hops.Given as goal
 

@@ -1,5 +1,5 @@
 use Rattle.std.proofs.Common.{length, arith, ap, subst}
-use Rattle.cable_tree.specs.Kept.{IsSegment}
+use Rattle.cable_tree.specs.Segment.{IsSegment}
 use Rattle.cable_tree.proofs.Bounds.{inside_small}
 use Rattle.cable_tree.proofs.tree.Tree.port_time.Goals as goal
 

@@ -1,5 +1,5 @@
 use Rattle.std.proofs.Common.{length, arith, ap, subst}
-use Rattle.cable_tree.specs.Kept.{IsSegment}
+use Rattle.cable_tree.specs.Segment.{IsSegment}
 use Rattle.cable_tree.proofs.Bounds.{span_small}
 use Rattle.cable_tree.proofs.Children.{root_of}
 use Rattle.cable_tree.proofs.tree.Tree.round_trip.Goals as goal

@@ -3,9 +3,9 @@ use Rattle.std.proofs.lemmas.Bool.Decides.{nat_tests}
 use Rattle.std.specs.Prelude.{MatchOption}
 use Rattle.std.specs.List.{All}
 use Rattle.cable_tree.specs.Row.{IsRow}
-use Rattle.cable_tree.specs.Segment.{IsTree, IsRoot}
+use Rattle.cable_tree.specs.Segment.{IsSegment, IsTree, IsRoot}
 use Rattle.cable_tree.specs.Refusals.{IsFree}
-use Rattle.cable_tree.specs.Kept.{IsSegment, AreKids}
+use Rattle.cable_tree.specs.Kept.{AreKids}
 use Rattle.cable_tree.specs.FrameOrder.{root}
 use Rattle.cable_tree.proofs.Checked.{rootless, tree_from_checks}
 use Rattle.cable_tree.proofs.Children.{root_of}

@@ -1,9 +1,0 @@
-use Rattle.std.proofs.Common.{◌≡◌, ◌-◌, length}
-use Rattle.std.specs.List.{find, range_with_len}
-use Rattle.dc_bounds.specs.Weight.{flag}
-use Rattle.dc_delay.specs.ShapeRows.{positions}
-use Rattle.dc_delay.proofs.measured.first_timed.Given as goal
-
-abbrev pub invariant-loop-position : goal.invariant-loop-position
-invariant-loop-position l =
-    find (flag l.timed) (positions (length l.timed)) ≡ find (flag l.timed) (range_with_len l.position (length l.timed - l.position))

@@ -1,6 +1,0 @@
-use Rattle.cable_tree.proofs.Levels.{subtree_is}
-use Rattle.tree_status.proofs.Pieces.{stands_together}
-use Rattle.tree_status.proofs.laws.subtrees_stand_together.Goals as goal
-
-pub returns : goal.returns
-returns c = record { piece = stands_together; parts = subtree_is }
