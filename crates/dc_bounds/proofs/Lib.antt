@@ -4,3 +4,6 @@ pub mod Growth
 pub mod Climbing
 pub mod WeightSize
 pub mod Leading
+pub mod Locking
+pub mod RunLength
+pub mod Weightless
