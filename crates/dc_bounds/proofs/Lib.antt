@@ -7,3 +7,4 @@ pub mod Leading
 pub mod Locking
 pub mod RunLength
 pub mod Weightless
+pub mod Staying

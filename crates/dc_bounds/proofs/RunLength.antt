@@ -66,3 +66,14 @@ last_edge r clocks m frame_ns cycle cycles shift k short early =
     sum : (start r lead cycle shift k cycles : ℕ) → start ≤ r + lead + cycle → (k + 1) * cycle ≤ cycles * cycle → shift + 2 ≤ 2 * cycle
         → start + shift + k * cycle + 2 ≤ r + (lead + (cycles + 2) * cycle)
     sum start r lead cycle shift k cycles a b c = omega (arith, a, b, c)
+
+-- the first due value is near
+pub not_far : (r clocks m frame_ns cycle shift copy x : ℕ) → shift + 2 ≤ 2 * cycle → 1000000 * r ≤ 1000000 * copy + x → 4 * x ≤ period_fs frame_ns
+    → lead_ns clocks m frame_ns + 2 * frame_ns + 3 * cycle < 2000000000 → start_ns r (lead_ns clocks m frame_ns) cycle + shift < copy + 2000000000
+not_far r clocks m frame_ns cycle shift copy x short reached quarter early =
+    let soon = start_soon r (lead_ns clocks m frame_ns) cycle in
+    sum (start_ns r (lead_ns clocks m frame_ns) cycle) r (lead_ns clocks m frame_ns) frame_ns cycle shift copy x soon short reached quarter early
+  where
+    sum : (start r lead frame cycle shift copy x : ℕ) → start ≤ r + lead + cycle → shift + 2 ≤ 2 * cycle → 1000000 * r ≤ 1000000 * copy + x → 4 * x ≤ 1000000 * frame
+        → lead + 2 * frame + 3 * cycle < 2000000000 → start + shift < copy + 2000000000
+    sum start r lead frame cycle shift copy x a b c d e = omega (arith, a, b, c, d, e)

@@ -9,7 +9,7 @@ ghost use Rattle.dc_bounds.specs.TickFacts.{AreTicksOf, IsNear, IsWithin};
 ghost use Rattle.dc_bounds.specs.LockNumbers.{lock_count, lock_falls, lock_step, period_fs, reach_fs, silence_fs, sure_fall, ticks_to_correction};
 ghost use Rattle.dc_bounds.specs.Weight.{reference, weight, weight_below};
 ghost use Rattle.dc_bounds.specs.DelayBound.{delay_bound};
-ghost use Rattle.dc_bounds.specs.CopyBound.{copy_bound};
+ghost use Rattle.dc_bounds.specs.CopyBound.{copy_bound, window};
 ghost use Rattle.dc_bounds.specs.RunNumbers.{lead_ns, reach_ns, run_frames, start_ns};
 
 /// The ticks in an interval that is open at its beginning and closed at its end, 10 ns each, are as far
@@ -56,9 +56,8 @@ pub fn weights_are_few()
     ensures weight { (rows : List Row) (measures timed : ℕ → Bool) (r : ℕ) → IsSegment rows → r < length rows → weight rows measures timed r ≤ 1024 }
 {}
 
-/// The reference has no weight, and its delay bound is 0; no other row has so. That needs nothing but a
-/// clock: it holds for all rows, whatever slaves measure, at every ppm and round trip. Without a clock
-/// every weight is 0.
+/// The weight and the delay bound are 0 at the reference, and at no other row: for all rows, whatever
+/// slaves measure and are clocks, at every ppm and round trip. Without a clock every weight is 0.
 pub fn reference_has_no_weight()
     ensures weight { (rows : List Row) (measures timed : ℕ → Bool) (q r : ℕ) → reference rows timed ≡ Some q
         → (weight rows measures timed r ≡ 0) ↔ (r ≡ q) }
@@ -117,10 +116,36 @@ pub fn differences_fall()
         → (j : ℕ) → j < count → lock_count ppm frame_ns speed loss_run reach < frame j → size j ≤ jump ppm (silence_fs loss_run frame_ns) }
 {}
 
+/// X, of numbers alone: two copies that were `received` when the last frame came are near each other after
+/// the ticks of a length of at most `loss_run` + 1 periods here, and of that and the true delay d there.
+/// What is left of the difference, ahead or behind, is within Q of these periods, and the delay was
+/// measured within its bound.
+pub fn copies_stay_near()
+    ensures { (ppm frame_ns loss_run bound d l ticks_here ticks_there received ahead behind delay here there : ℕ) → ppm ≤ 100
+        → l ≤ silence_fs loss_run frame_ns → AreTicksOf ppm l ticks_here → AreTicksOf ppm (l + d) ticks_there
+        → IsNear (1000000 * delay) d bound
+        → ahead ≤ jump ppm (silence_fs loss_run frame_ns) → behind ≤ jump ppm (silence_fs loss_run frame_ns)
+        → here + behind ≡ received + 10 * ticks_here + ahead + delay → there ≡ received + 10 * ticks_there
+        → IsNear (1000000 * here) (1000000 * there) (copy_bound ppm frame_ns loss_run bound d) }
+{}
+
+/// W, of numbers alone: edges of one index are apart by their shifts, and by at most W beside. At the first
+/// edge the reference's copy is `copy`, at the second one k ticks `later`, and each is at most a tick above
+/// the due value, and x or y off; the due values differ as the shifts do, which are at most `shift` apart.
+pub fn edges_stay_near()
+    ensures { (ppm shift x y first second due other copy later k l : ℕ) → IsNear first second shift
+        → 1000000 * due ≤ 1000000 * copy + x → 1000000 * copy ≤ 1000000 * due + tick_fs + x
+        → 1000000 * other ≤ 1000000 * later + y → 1000000 * later ≤ 1000000 * other + tick_fs + y
+        → other + first ≡ due + second → later ≡ copy + 10 * k → IsNear (tick_fs * k) l (count_gap ppm k)
+        → IsNear (l + 1000000 * first) (1000000 * second) (window ppm shift x y) }
+{}
+
 /// The start of the units lies behind r by more than the lead, and by at most a cycle more (`after`,
 /// `soon`). The lead is the periods in which every try of arming is over, and two more (`lead`). So where k
 /// ticks of the reference are those from the last time that came back to an arming, its copy at that
-/// instant, and x more, is below r and the lead (`ahead`).
+/// instant, and x more, is below r and the lead (`ahead`); and the first due value of a signal is less
+/// than 2 s ahead of a copy that is at most x behind r, where a file keeps to what it may ask for
+/// (`not_far`).
 pub fn start_lies_ahead()
     ensures after { (r lead cycle_ns : ℕ) → 1 ≤ cycle_ns → r + lead < start_ns r lead cycle_ns }
     ensures soon { (r lead cycle_ns : ℕ) → start_ns r lead cycle_ns ≤ r + lead + cycle_ns }
@@ -129,6 +154,10 @@ pub fn start_lies_ahead()
     ensures ahead { (ppm clocks loss_run frame_ns l d k x : ℕ) → AreTicksOf ppm l k
         → l ≤ (3 * clocks + loss_run) * period_fs frame_ns + d → d < period_fs frame_ns
         → 4 * (tick_gap ppm l + x) ≤ period_fs frame_ns → tick_fs * k + x < 1000000 * lead_ns clocks loss_run frame_ns }
+    ensures not_far { (r clocks loss_run frame_ns cycle_ns shift copy x : ℕ) → shift + 2 ≤ 2 * cycle_ns
+        → 1000000 * r ≤ 1000000 * copy + x → 4 * x ≤ period_fs frame_ns
+        → lead_ns clocks loss_run frame_ns + 2 * frame_ns + 3 * cycle_ns < 2000000000
+        → start_ns r (lead_ns clocks loss_run frame_ns) cycle_ns + shift < copy + 2000000000 }
 {}
 
 /// A run is long enough: its frames take U, a thousandth of it and two periods (`frames`); in these
