@@ -5,3 +5,7 @@ pub mod Climbing
 pub mod ByPosition
 pub mod WeightSize
 pub mod Leading
+pub mod Locking
+pub mod RunLength
+pub mod Weightless
+pub mod Staying

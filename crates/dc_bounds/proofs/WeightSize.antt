@@ -96,6 +96,9 @@ find_within p (x ∷ xs) n q within found =
     at true e later = let same : Some x ≡ Some q = sym (rw e refl) ∙ found in subst (λ y. y < n) (some_same same) (within 0 (omega arith))
     at false e later = later (sym (rw e refl) ∙ found)
 
+pub way_few : (rows : List Row) (measures : ℕ → Bool) (c r : ℕ) → IsSegment rows → r < length rows → weight_below rows measures c r ≤ 512
+way_few rows measures c r segment within = below_few rows measures c r segment.tree segment.few within
+
 pub weight_few : (rows : List Row) (measures timed : ℕ → Bool) (r : ℕ) → IsSegment rows → r < length rows → weight rows measures timed r ≤ 1024
 weight_few rows measures timed r segment within = to (reference rows timed) refl
   where

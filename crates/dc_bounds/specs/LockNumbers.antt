@@ -29,9 +29,20 @@ lock_step ppm frame_ns speed loss_run = least_of (gain ppm frame_ns speed) loss_
 abbrev pub reach_fs : ℕ → ℕ → ℕ → ℕ → ℕ
 reach_fs measuring clocks loss_run frame_ns = (3 * measuring + 3 * clocks + loss_run + 1) * period_fs frame_ns
 
+-- the longest time between two frames that come
+abbrev pub silence_fs : ℕ → ℕ → ℕ
+silence_fs loss_run frame_ns = (loss_run + 1) * period_fs frame_ns
+
+-- μ as a natural number, where it is above 0: by so many ns at least a difference falls from one frame that comes to the next
+abbrev pub sure_fall : ℕ → ℕ → ℕ → ℕ → ℕ
+sure_fall ppm frame_ns speed loss_run = unsigned_abs (lock_step ppm frame_ns speed loss_run)
+
+-- N: so many falls by μ bring the drift of this time down to that of loss_run + 1 periods
+abbrev pub lock_falls : ℕ → ℕ → ℕ → ℕ → ℕ → ℕ
+lock_falls ppm frame_ns speed loss_run reach =
+    div_ceil (jump ppm reach - jump ppm (silence_fs loss_run frame_ns)) (sure_fall ppm frame_ns speed loss_run)
+
 -- K: the frames after which no difference is above the drift of loss_run + 1 periods, where the first of them comes
 -- within reach of the latch frame and μ is above 0
 abbrev pub lock_count : ℕ → ℕ → ℕ → ℕ → ℕ → ℕ
-lock_count ppm frame_ns speed loss_run reach =
-    let drift = jump ppm reach - jump ppm ((loss_run + 1) * period_fs frame_ns) in
-    (loss_run + 1) * div_ceil drift (unsigned_abs (lock_step ppm frame_ns speed loss_run))
+lock_count ppm frame_ns speed loss_run reach = (loss_run + 1) * lock_falls ppm frame_ns speed loss_run reach

@@ -14,3 +14,8 @@ abbrev pub run_frames : ℕ → ℕ → ℕ → ℕ → ℕ → ℕ
 run_frames clocks loss_run frame_ns cycle_ns cycles =
     let u = reach_ns clocks loss_run frame_ns cycle_ns cycles in
     (u + u / 1000) / frame_ns + 3
+
+-- the start of the units, before it is cut to 64 bits: the first whole number of cycles behind r and the lead, where r
+-- is the last time of the reference that came back
+abbrev pub start_ns : ℕ → ℕ → ℕ → ℕ
+start_ns r lead cycle_ns = ((r + lead) / cycle_ns + 1) * cycle_ns
