@@ -67,3 +67,14 @@ corrections_few g k s h =
     let few : done g n s.count k ≤ k / g + 1 = let r = rounds s.count g k h.below in omega (arith, r) in
     subst (λ z. (elapsed g k (record { left = z; count = s.count }) ≤ 10 * k + (k / g + 1)) × (10 * k ≤ elapsed g k (record { left = z; count = s.count }) + (k / g + 1))) (sym e.1)
     (near_by e.0 _ (done g n s.count k) k (k / g + 1) (elapsed_at_once e.0 g n s.count k (omega (arith, h.below)) h.below rests) few)
+
+-- and no more than what is left
+pub corrections_within : (g k : ℕ) (s : Steering) → IsSteady g s
+    → (elapsed g k s ≤ 10 * k + unsigned_abs s.left) × (10 * k ≤ elapsed g k s + unsigned_abs s.left)
+corrections_within g k s h =
+    let e = by_size s.left in
+    let n = unsigned_abs s.left in
+    let rests : n ≡ 0 → s.count ≡ 0 = λ none. h.rests (e.1 ∙ ap (signed e.0) none ∙ signed_none e.0) in
+    let few : done g n s.count k ≤ n = omega arith in
+    subst (λ z. (elapsed g k (record { left = z; count = s.count }) ≤ 10 * k + n) × (10 * k ≤ elapsed g k (record { left = z; count = s.count }) + n)) (sym e.1)
+    (near_by e.0 _ (done g n s.count k) k n (elapsed_at_once e.0 g n s.count k (omega (arith, h.below)) h.below rests) few)

@@ -48,8 +48,10 @@ pub(crate) fn ticks_to_pass(left: i64, count: u8, g: u8, gap: u64) -> u64
     ensures reached { gap ≤ elapsed g result (record { left = left; count = count }) }
     ensures least { (j : ℕ) → j < result → elapsed g j (record { left = left; count = count }) < gap }
 {
-    let mut low = gap / 11;
-    let mut high = gap / 9 + 1;
+    // A tick is 9 to 11 ns, and all ticks together are off 10 ns each by no more than is left.
+    let size = left.unsigned_abs();
+    let mut low = (gap / 11).max(gap.saturating_sub(size) / 10);
+    let mut high = (gap / 9 + 1).min(gap / 10 + size / 10 + 2);
     while low < high {
         let middle = low + (high - low) / 2;
         let (elapsed, _, _) = ticked(left, count, g, middle);

@@ -12,9 +12,10 @@ use Rattle.local_clock.proofs.ManyTicks.{ticks_to_tick, ticks_on, advanced_readi
 use Rattle.sync_units.specs.ClockCopy.{copy_after}
 use Rattle.sync_units.specs.KeptEdges.{Kept, put_all}
 use Rattle.sync_units.specs.SyncRule.{Due, Armed, after_tick, tick_edges, after_ticks, ticks_edges}
+use Rattle.sync_units.specs.Quiet.{AreQuiet}
 use Rattle.sync_units.specs.NextEdge.{IsNextEdge, IsNextEdge1, IsNextUnlessNow, IsNextUnlessNow1, IsFrom, IsFirst}
 use Rattle.sync_units.proofs.Kept.{put_all-append}
-use Rattle.sync_units.proofs.Ticks.{AreQuiet, quiet_after, quiet_none, first_after, first_edges}
+use Rattle.sync_units.proofs.Ticks.{quiet_after, quiet_none, first_after, first_edges}
 
 within_is : (x n : ℕ) → within_time x ≡ Some n → x ≡ n
 within_is x n is = at (nat_lt x (2 ^ 64)) is
@@ -51,9 +52,9 @@ quiet_until w n offset v c at run (k, next, is) from few i some early = elim (ca
 pub all_quiet : (w n offset j : ℕ) (c : Clock) (a : Armed) (at0 at1 : Option ℕ) → IsRunning c.osc
     → IsNextEdge w c offset a.sync0.value at0 → IsNextEdge1 w c offset a.sync1 at1 → IsFrom n at0 → IsFrom n at1 → n ≤ 2 ^ 64
     → ((i : ℕ) → i ≤ j → 0 < i → tick_after c i < n) → AreQuiet w (copy_after w c offset) j a
-all_quiet w n offset j c a at0 at1 run next0 next1 from0 from1 few early = record {
-  sync0 = λ i some le. quiet_until w n offset a.sync0.value c at0 run next0 from0 few i some (early i le some);
-  sync1 = λ d is i some le. quiet_until w n offset d.value c at1 run
+all_quiet w n offset j c a at0 at1 run next0 next1 from0 from1 few early = λ i some le. record {
+  sync0 = quiet_until w n offset a.sync0.value c at0 run next0 from0 few i some (early i le some);
+  sync1 = λ d is. quiet_until w n offset d.value c at1 run
       (subst (λ o. IsNextEdge1 w c offset o at1) is next1) from1 few i some (early i le some);
 }
 

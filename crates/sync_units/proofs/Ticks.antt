@@ -1,11 +1,12 @@
 -- Ticks one after the other, and ticks at which nothing is reached.
-use Rattle.std.proofs.Common.{◌≡◌, ℕ, suc, zero, ◌+◌, ◌-◌, ◌<◌, ◌≤◌, true, List, [], ◌++◌, Option, Some, None, arith, refl, sym, ap, ap₂, ◌∙◌, add-zero, add-suc, append_assoc}
+use Rattle.std.proofs.Common.{◌≡◌, ℕ, suc, zero, ◌+◌, ◌-◌, ◌<◌, true, List, [], ◌++◌, Option, Some, None, arith, refl, sym, ap, ap₂, ◌∙◌, add-zero, add-suc, append_assoc}
 use Rattle.std.specs.Option.{option_map, option_map_or}
 use Rattle.std.proofs.lemmas.List.{append-nil}
 use Rattle.local_clock.specs.FirstReaching.{is_behind}
 use Rattle.sync_units.specs.declared.edge.Edge.{Edge}
 use Rattle.sync_units.specs.declared.edge.Signal.TheVariants.{Sync0, Sync1}
 use Rattle.sync_units.specs.SyncRule.{Due, Armed, due_after_tick, raised, after_tick, tick_edges, after_ticks, ticks_edges}
+use Rattle.sync_units.specs.Quiet.{AreQuiet}
 
 pub after_ticks-add : (w : ℕ) (copy : ℕ → ℕ) (j k : ℕ) (a : Armed)
     → after_ticks w copy (j + k) a ≡ after_ticks w (λ i. copy (j + i)) k (after_ticks w copy j a)
@@ -22,11 +23,6 @@ ticks_edges-add w copy time j (suc k) a =
     let before = ticks_edges-add w copy time j k a in
     let unit = after_ticks-add w copy j k a in
     rw add-suc (rw (before, unit) (simp append_assoc))
-
--- up to tick n no signal of the unit is reached
-pub record AreQuiet (w : ℕ) (copy : ℕ → ℕ) (n : ℕ) (a : Armed) : Type 0 where
-  pub sync0 : (i : ℕ) → 0 < i → i ≤ n → is_behind w (copy i) a.sync0.value ≡ true
-  pub sync1 : (d : Due) → a.sync1 ≡ Some d → (i : ℕ) → 0 < i → i ≤ n → is_behind w (copy i) d.value ≡ true
 
 quiet_due : (w cycle x : ℕ) (d : Due) → is_behind w x d.value ≡ true → due_after_tick w cycle x d ≡ d
 quiet_due w cycle x d behind = rw behind refl
@@ -50,28 +46,24 @@ quiet_edges w x at a h0 h1 = rw h0 (second a.sync1 h1)
     second None h = refl
     second (Some d) h = let b = h d refl in rw b refl
 
+less_quiet : (w : ℕ) (copy : ℕ → ℕ) (n : ℕ) (a : Armed) → AreQuiet w copy (suc n) a → AreQuiet w copy n a
+less_quiet w copy n a h = λ i some le. h i some (omega arith)
+
 pub quiet_after : (w : ℕ) (copy : ℕ → ℕ) (n : ℕ) (a : Armed) → AreQuiet w copy n a → after_ticks w copy n a ≡ a
 quiet_after w copy zero a h = refl
 quiet_after w copy (suc n) a h =
-    ap (after_tick w (copy (suc n)))
-    (quiet_after w copy n a (record {
-      sync0 = λ i some le. h.sync0 i some (omega arith);
-      sync1 = λ d is i some le. h.sync1 d is i some (omega arith);
-    }))
-    ∙ quiet_tick w (copy (suc n)) a (h.sync0 (suc n) (omega arith) (omega arith))
-    (λ d is. h.sync1 d is (suc n) (omega arith) (omega arith))
+    let here = h (suc n) (omega arith) (omega arith) in
+    ap (after_tick w (copy (suc n))) (quiet_after w copy n a (less_quiet w copy n a h))
+    ∙ quiet_tick w (copy (suc n)) a here.sync0 here.sync1
 
 pub quiet_none : (w : ℕ) (copy time : ℕ → ℕ) (n : ℕ) (a : Armed) → AreQuiet w copy n a → ticks_edges w copy time n a ≡ []
 quiet_none w copy time zero a h = refl
 quiet_none w copy time (suc n) a h =
-    let less : AreQuiet w copy n a = record {
-      sync0 = λ i some le. h.sync0 i some (omega arith);
-      sync1 = λ d is i some le. h.sync1 d is i some (omega arith);
-    } in
+    let less = less_quiet w copy n a h in
+    let here = h (suc n) (omega arith) (omega arith) in
     ap₂ (λ (es : List Edge) (b : Armed). es ++ tick_edges w (copy (suc n)) (time (suc n)) b)
     (quiet_none w copy time n a less) (quiet_after w copy n a less)
-    ∙ quiet_edges w (copy (suc n)) (time (suc n)) a (h.sync0 (suc n) (omega arith) (omega arith))
-    (λ d is. h.sync1 d is (suc n) (omega arith) (omega arith))
+    ∙ quiet_edges w (copy (suc n)) (time (suc n)) a here.sync0 here.sync1
 
 -- where something may first be reached at tick n: m ticks are that one and the ticks after it
 pub first_after : (w : ℕ) (copy later : ℕ → ℕ) (n k m : ℕ) (a : Armed) → 0 < n → AreQuiet w copy (n - 1) a

@@ -6,6 +6,7 @@ ghost use Rattle.local_clock.specs.FirstReaching.{is_behind, tick_after};
 ghost use Rattle.sync_units.specs.ClockCopy.{copy_of, copy_after};
 ghost use Rattle.sync_units.specs.SyncRule.{Due, armed_by, due_after_tick, raised, after_tick, tick_edges, after_ticks, ticks_edges};
 ghost use Rattle.sync_units.specs.KeptEdges.{put_all};
+ghost use Rattle.sync_units.specs.Quiet.{AreQuiet};
 ghost use Rattle.sync_units.specs.NextEdge.{IsNextEdge, IsNextEdge1, IsNextUnlessNow, IsNextUnlessNow1, IsFrom, IsFirst};
 
 use crate::edge::Signal;
@@ -93,6 +94,32 @@ impl<W: ClockWord> ArmedUnit<W> {
         t: u64,
         list: &mut EdgeList,
     )
+        requires { clock.now.instant ≤ t }
+        ensures unit { self.new
+            ≡ after_ticks W.WIDTH (copy_after W.WIDTH clock.now (W.number offset)) (ticks_to clock.now t) self.old }
+        ensures list { let copy = copy_after W.WIDTH clock.now (W.number offset) in
+            list.new ≡ put_all (ticks_edges W.WIDTH copy (tick_after clock.now) (ticks_to clock.now t) self.old) list.old }
+    {
+        // A wire visits a clock far more often than an edge is due, and looking for one is dear.
+        if self.is_quiet(clock, offset, clock.ticks_to(t)) {
+            return;
+        }
+        self.raise_until(clock, offset, t, list);
+    }
+
+    // Whether so many ticks of the clock are too few for an edge of either signal.
+    fn is_quiet(&self, clock: &LocalClock<W>, offset: W, ticks: u64) -> bool
+        ensures { result ≡ true → AreQuiet W.WIDTH (copy_after W.WIDTH clock.now (W.number offset)) ticks self.now }
+    {
+        let quiet = self.sync0.is_beyond(clock, offset, ticks);
+        match self.sync1 {
+            Some(due) => quiet && due.is_beyond(clock, offset, ticks),
+            None => quiet,
+        }
+    }
+
+    // The same as `edges_until`, from edge to edge.
+    fn raise_until(&mut self, clock: &LocalClock<W>, offset: W, t: u64, list: &mut EdgeList)
         requires { clock.now.instant ≤ t }
         ensures unit { self.new
             ≡ after_ticks W.WIDTH (copy_after W.WIDTH clock.now (W.number offset)) (ticks_to clock.now t) self.old }

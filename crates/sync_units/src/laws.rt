@@ -4,7 +4,8 @@ ghost use Rattle.std.specs.Prelude.{◌≡◌, ℕ, ◌+◌, ◌%◌, ◌^◌, �
 ghost use Rattle.osc_clock.specs.Ticks.{Oscillator, IsRunning, ticks, instant};
 ghost use Rattle.sync_units.specs.declared.edge.Edge.{Edge};
 ghost use Rattle.sync_units.specs.declared.edge.Signal.{Signal};
-ghost use Rattle.sync_units.specs.SyncRule.{Armed, armed_by, ticks_edges, unit_after, unit_edges};
+ghost use Rattle.sync_units.specs.SyncRule.{Armed, armed_by, after_ticks, ticks_edges, unit_after, unit_edges};
+ghost use Rattle.sync_units.specs.Quiet.{AreQuiet};
 ghost use Rattle.sync_units.specs.KeptEdges.{Kept, empty_list, put_all};
 ghost use Rattle.sync_units.specs.Edges.{EdgeAt, AreEdges, edges_of, first_edges};
 ghost use Rattle.sync_units.specs.Calls.{Call, AreInTurn, ticks_of_calls, copy_in, unit_after_calls, list_after_calls};
@@ -18,6 +19,12 @@ pub fn ticks_in_turn()
         → unit_edges w copy time (j + k) unit
         ≡ unit_edges w copy time j unit ++ unit_edges w (λ i. copy (j + i)) (λ i. time (j + i)) k (unit_after w copy j unit) }
     ensures list { (es fs : List Edge) (l : Kept) → put_all (es ++ fs) l ≡ put_all fs (put_all es l) }
+{}
+
+/// Ticks at which nothing is due leave a unit as it is, and raise nothing.
+pub fn quiet_ticks()
+    ensures unit { (w : ℕ) (copy : ℕ → ℕ) (k : ℕ) (a : Armed) → AreQuiet w copy k a → after_ticks w copy k a ≡ a }
+    ensures edges { (w : ℕ) (copy time : ℕ → ℕ) (k : ℕ) (a : Armed) → AreQuiet w copy k a → ticks_edges w copy time k a ≡ [] }
 {}
 
 /// A unit that was armed raises, up to tick n, exactly the edges of the definition, each once and in

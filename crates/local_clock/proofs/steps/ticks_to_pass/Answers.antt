@@ -1,5 +1,9 @@
-use Rattle.std.proofs.Common.{◌≡◌, ℕ, ◌+◌, ◌-◌, ◌/◌, ◌<◌, ◌≤◌, arith, to_z, of_z, w64}
+use Rattle.std.proofs.Common.{◌≡◌, ℕ, ◌+◌, ◌-◌, ◌/◌, ◌<◌, ◌≤◌, arith, rules, sym, ◌∙◌, to_z, of_z, w64}
+use Rattle.std.specs.Prelude.{min, max, unsigned_abs}
+use Rattle.std.proofs.lemmas.Int.{to_z-of_z}
 use Rattle.local_clock.specs.StepRule.{Steering, elapsed}
+use Rattle.local_clock.specs.WorkedOff.{IsSteady}
+use Rattle.local_clock.proofs.WorkedOff.{corrections_within}
 use Rattle.local_clock.proofs.Elapsed.{elapsed_least, elapsed_most, elapsed_rises}
 use Rattle.local_clock.proofs.AtOnce.{steering_at}
 use Rattle.local_clock.proofs.steps.ticks_to_pass.Goals as goal
@@ -14,11 +18,22 @@ fewer g m gap s j past h =
 pub loop-low-init : goal.loop-low-init
 loop-low-init c =
     let s = steering_at (to_z w64 (of_z w64 c.args.left)) c.args.count in
+    let kept = to_z-of_z w64 c.args.left c.ranges.left in
+    let steady : IsSteady c.args.g s = record { below = c.requires.below; rests = λ none. c.requires.rests (sym kept ∙ none) } in
+    let size : c.unsigned_abs-size.result ≡ unsigned_abs s.left = c.unsigned_abs-size.ensures.value in
+    let low : c.max-low.result ≡ max (c.args.gap / 11) ((c.args.gap - c.unsigned_abs-size.result) / 10) = search rules in
+    let high : c.min-high.result ≡ min (c.args.gap / 9 + 1) (c.args.gap / 10 + c.unsigned_abs-size.result / 10 + 2) = search rules in
     record {
-      order = omega arith;
-      within = omega arith;
-      reached = let least = elapsed_least c.args.g (c.args.gap / 9 + 1) s in omega (arith, least);
-      before = λ j h. let most = elapsed_most c.args.g j s in omega (arith, most, h);
+      order = omega (arith, low, high);
+      within = omega (arith, high);
+      reached =
+          let nine = elapsed_least c.args.g c.min-high.result s in
+          let near = (corrections_within c.args.g c.min-high.result s steady).1 in
+          omega (arith, nine, near, size, high);
+      before = λ j h.
+          let eleven = elapsed_most c.args.g j s in
+          let near = (corrections_within c.args.g j s steady).0 in
+          omega (arith, eleven, near, size, low, h);
     }
 
 pub loop-low-preserved : goal.loop-low-preserved

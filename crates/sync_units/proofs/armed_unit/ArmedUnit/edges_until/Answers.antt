@@ -1,28 +1,15 @@
-use Rattle.sync_units.proofs.NextEdges.{later, goes_on, ends}
+use Rattle.std.proofs.Common.{sym, ap}
+use Rattle.local_clock.specs.FirstReaching.{tick_after}
+use Rattle.sync_units.specs.KeptEdges.{put_all}
+use Rattle.sync_units.proofs.Ticks.{quiet_after, quiet_none}
 use Rattle.sync_units.proofs.armed_unit.ArmedUnit.edges_until.Goals as goal
 
-pub advance-requires : goal.advance-requires
-advance-requires g c = (later _ _ _ _ _ _ _ _ _ _ _ _ c.ranges.t.fits c.loop-tick.invariant c.in-Some.ensures).0
+pub returns-then-is_quiet-clause-unit : goal.returns-then-is_quiet-clause-unit
+returns-then-is_quiet-clause-unit g c =
+    let quiet = rw c.ticks_to.ensures.number at (c.is_quiet.ensures c.if-is_quiet.true) in
+    sym (quiet_after _ _ _ _ quiet)
 
-pub loop-tick-smaller : goal.loop-tick-smaller
-loop-tick-smaller g c =
-    rw c.advance.ensures.is ((later _ _ _ _ _ _ _ _ _ _ _ _ c.ranges.t.fits c.loop-tick.invariant c.in-Some.ensures).1)
-
-pub loop-tick-preserved : goal.loop-tick-preserved
-loop-tick-preserved g c =
-    let e = c.advance.ensures.is in
-    rw e
-    (goes_on _ _ _ c.in-Some.tick _ _ _ _ _ _ _ _ c.take_tick-next.new.self c.take_tick-next.new.list
-    c.take_tick-next.result.sync0 c.take_tick-next.result.sync1 c.ranges.t.fits c.loop-tick.invariant c.in-Some.ensures
-    (rw e at c.take_tick-next.ensures.unit) (rw e at c.take_tick-next.ensures.list)
-    (rw e at c.take_tick-next.ensures.sync0) (rw e at c.take_tick-next.ensures.sync1))
-
-pub returns-clause-unit : goal.returns-clause-unit
-returns-clause-unit g c =
-    let none = c.in_default.ensures in
-    (ends _ _ _ _ _ _ _ _ _ _ _ c.ranges.t.fits c.loop-tick.invariant none.0 none.1).0
-
-pub returns-clause-list : goal.returns-clause-list
-returns-clause-list g c =
-    let none = c.in_default.ensures in
-    (ends _ _ _ _ _ _ _ _ _ _ _ c.ranges.t.fits c.loop-tick.invariant none.0 none.1).1
+pub returns-then-is_quiet-clause-list : goal.returns-then-is_quiet-clause-list
+returns-then-is_quiet-clause-list g c =
+    let quiet = rw c.ticks_to.ensures.number at (c.is_quiet.ensures c.if-is_quiet.true) in
+    ap (λ es. put_all es c.args.list.now) (sym (quiet_none _ _ (tick_after c.args.clock.now) _ _ quiet))

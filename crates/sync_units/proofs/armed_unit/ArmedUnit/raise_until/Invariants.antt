@@ -1,6 +1,6 @@
 use Rattle.local_clock.specs.Reading.{ticks_to}
 use Rattle.sync_units.proofs.NextEdges.{GoesOn}
-use Rattle.sync_units.proofs.armed_unit.ArmedUnit.edges_until.Given as goal
+use Rattle.sync_units.proofs.armed_unit.ArmedUnit.raise_until.Given as goal
 
 abbrev pub invariant-loop-tick : goal.invariant-loop-tick
 invariant-loop-tick g l =
