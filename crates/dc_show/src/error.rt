@@ -1,4 +1,5 @@
 use ecat_frame::FrameError;
+use std::alloc::AllocError;
 use std::fmt;
 use thiserror::Error;
 
@@ -32,4 +33,15 @@ pub enum ShowError {
     BadFrame(u32, FrameFault),
     /// Memory ran out.
     NoMemory,
+}
+
+impl From<AllocError> for ShowError {
+    ghost use Rattle.std.specs.Prelude.{◌≡◌};
+    ghost use Rattle.dc_show.specs.declared.error.ShowError.TheVariants.{NoMemory};
+
+    ghost from_gives = { λ _ e. e ≡ NoMemory };
+
+    fn from(_error: AllocError) -> ShowError {
+        ShowError::NoMemory
+    }
 }

@@ -1,9 +1,7 @@
 -- Two frames that were compared up to some datagram.
-use Rattle.std.proofs.Common.{◌≡◌, ◌∙◌, sym, ap, ℕ, ◌+◌, ◌*◌, ◌%◌, ◌/◌, ◌<◌, ◌≤◌, min, List, [], ◌∷◌, ◌++◌, length, map, take, drop, get_or, replicate, Option, Some, None, slice_get, ◌⊎◌, refl, inl, inr, arith}
-use Rattle.std.specs.List.{All}
+use Rattle.std.proofs.Common.{◌≡◌, ◌∙◌, sym, ap, ℕ, ◌+◌, ◌%◌, ◌<◌, ◌≤◌, min, List, [], ◌∷◌, ◌++◌, length, map, drop, replicate, Some, None, slice_get, ◌⊎◌, refl, inl, inr, arith}
 use Rattle.std.proofs.lemmas.Bool.{cases_lt}
-use Rattle.std.proofs.lemmas.List.{drop_more, drop_all, length-drop, length-append, length-replicate}
-use Rattle.std.proofs.lemmas.List.Elements.{All-get_or}
+use Rattle.std.proofs.lemmas.List.{drop_more, drop_all, length-append, length-replicate}
 use Rattle.std.proofs.lemmas.Option.{slice_get_within, get_or_from_slice_get}
 use Rattle.byteorder.specs.Endian.{little_number}
 use Rattle.ecat_frame.specs.Commands.{code_of}
@@ -13,10 +11,9 @@ use Rattle.ecat_frame.specs.InsideDifference.{heading, without_circulating}
 use Rattle.ecat_frame.specs.Reading.{seen}
 use Rattle.ecat_frame.specs.declared.datagram.Datagram.{Datagram}
 use Rattle.ecat_frame.proofs.Apart.{ahead, ahead_twice, apart_behind, apart_none, apart_before}
-use Rattle.ecat_frame.proofs.Datagrams.{all_spelled-cons, length-all_spelled-ge, more-lt, some_datagram}
-use Rattle.ecat_frame.proofs.Kept.{length-spelling-le}
-use Rattle.ecat_frame.proofs.Spelled.{length-spelled, length_word-lt, word_back}
-use Rattle.ecat_frame.proofs.Spelling.{header_word-lt, header_word-mod, length-spelling}
+use Rattle.ecat_frame.proofs.Datagrams.{length-all_spelled-ge, more-lt}
+use Rattle.ecat_frame.proofs.Spelled.{length-spelled, word_back}
+use Rattle.ecat_frame.proofs.Spelling.{header_word-lt, header_word-mod}
 use Rattle.ecat_frame.proofs.Wiped.{heading_of, length-heading_of, more_wiped, spelled-wiped, spelling-wiped}
 
 same_word : (n m : ℕ) → n < 65536 → m < 65536 → word n ≡ word m → n ≡ m
@@ -191,11 +188,3 @@ all_alike f g k start n a h (inl e) =
 all_alike f g k start n a h (inr e) =
     let none : drop k g.datagrams ≡ [] = drop_all k g.datagrams (omega arith) in
     a.same ∙ rw (none, none_left g f k none (sym a.sizes)) refl
-
--- where a datagram is left its bytes lie within the frame
-pub within : (f g : FrameValue) (k start : ℕ) (d : Datagram) → Alike f g k start → Read f k d → start + 12 + length d.payload.now ≤ 1514
-within f g k start d a r =
-    let size = size_at f k d r in
-    let place = a.place in
-    let most = r.valid.most in
-    omega arith

@@ -1,5 +1,5 @@
 -- The heads of two datagrams, compared part by part.
-use Rattle.std.proofs.Common.{◌≡◌, ◌∙◌, sym, ap, ℕ, ◌+◌, ◌≢◌, List, [], ◌∷◌, ◌++◌, length, Option, Some, None, refl}
+use Rattle.std.proofs.Common.{◌≡◌, ◌∙◌, sym, ap, ℕ, ◌+◌, ◌≢◌, List, [], ◌∷◌, ◌++◌, Some, None, refl}
 use Rattle.ecat_frame.specs.Commands.{code_of}
 use Rattle.ecat_frame.specs.Difference.{first_apart}
 use Rattle.ecat_frame.specs.FrameGrammar.{word}

@@ -1,5 +1,5 @@
 -- How two frames are compared.
-use Rattle.std.specs.Prelude.{ℕ, ◌+◌, ◌*◌, ◌/◌, ◌%◌, List, [], ◌∷◌, ◌++◌}
+use Rattle.std.specs.Prelude.{ℕ, ◌+◌, ◌*◌, ◌/◌, ◌%◌, List, ◌∷◌, ◌++◌}
 use Rattle.ecat_frame.specs.Commands.{code_of}
 use Rattle.ecat_frame.specs.FrameGrammar.{word}
 use Rattle.ecat_frame.specs.declared.datagram.Datagram.{Datagram}

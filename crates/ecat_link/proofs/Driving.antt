@@ -2,7 +2,7 @@
 use Rattle.std.proofs.Common.{◌≡◌, ℕ, zero, suc, ◌<◌, List, [], ◌∷◌, ◌++◌, length, Option, Some, refl, sym, ap, ◌∙◌, append_assoc, arith}
 use Rattle.std.proofs.lemmas.List.{append-nil}
 use Rattle.ecat_frame.specs.FrameGrammar.{FrameValue}
-use Rattle.ecat_link.specs.Drive.{Ending, drive, exchange_of}
+use Rattle.ecat_link.specs.Drive.{drive, exchange_of}
 use Rattle.ecat_link.specs.Exchanges.{Exchange, StepOf, Runs}
 use Rattle.ecat_link.specs.Serves.{Next, Send, End, Sends}
 

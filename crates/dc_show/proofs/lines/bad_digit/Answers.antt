@@ -1,6 +1,6 @@
-use Rattle.std.proofs.Common.{inr, refl}
-use Rattle.dc_show.proofs.Digits.{odd_length}
+use Rattle.std.proofs.Common.{unwrap_or}
+use Rattle.dc_show.proofs.Digits.{hex_fault}
 use Rattle.dc_show.proofs.lines.bad_digit.Goals as goal
 
-pub returns-in-None : goal.returns-in-None
-returns-in-None c = inr (record { digits = c.in-None.ensures; odd = odd_length c.args.line.now c.in-None.ensures c.requires; all = refl })
+pub returns : goal.returns
+returns c = hex_fault c.args.line.now c.first_other.result c.unwrap_or.result c.first_other.ensures c.unwrap_or.ensures c.requires

@@ -1,42 +1,77 @@
-use Rattle.std.proofs.Common.{◌≡◌, ◌∙◌, sym, ap, ◌+◌, ◌++◌, length, arith, subst}
-use Rattle.std.proofs.lemmas.List.{append_assoc, length-drop}
-use Rattle.dc_show.specs.Shown.{Shows, ends, IsShowError, IsLineError, ShowsLine, Refuses, without_return}
-use Rattle.dc_show.proofs.Continuing.{shows_on, refuses_on, error_here, error_at_end}
+use Rattle.std.proofs.Common.{◌≡◌, ◌∙◌, sym, ap, rules, ◌+◌, ◌++◌, Err, inl, inr, arith, subst}
+use Rattle.std.proofs.lemmas.List.{append_assoc}
+use Rattle.dc_show.specs.Shown.{Shows, goes_on, ends, later, ShowsLine, IsLineError, IsShowError, without_return}
+use Rattle.dc_show.proofs.Continuing.{error_here, error_at_end, shorter}
+use Rattle.dc_show.proofs.OneAnswer.{own_refusal, no_refusal, text_or_refusal}
 use Rattle.dc_show.proofs.lines.show.Goals as goal
+use Rattle.dc_show.proofs.lines.show.Goals.{After-drop-text, After-drop-text-in_err-show_line-2, In_ok-show_line-2}
 
-pub returns-in-Err-clause-refused : goal.returns-in-Err-clause-refused
-returns-in-Err-clause-refused c =
-    let line : c.without_return-line.result.now ≡ without_return c.front.result.now = c.without_return-line.ensures in
-    let e = subst (λ l. IsLineError l c.in-Err.error) (line ∙ ap without_return c.front.ensures) c.in-Err.ensures.err in
-    subst (IsShowError c.args.bytes.now) (sym c.at.ensures)
-    (error_here c.args.bytes.now c.loop-end.rest.now c.loop-end.number c.in-Some.end c.loop-end.invariant.refuses c.in-Some.ensures c.in-Err.error e)
+-- what the error of a line that ends at a line feed says of the input
+told : (c : After-drop-text) → IsShowError c.args.bytes.now c.in_err-show_line.field-0.0
+told c =
+    error_here c.args.bytes.now c.loop-line.rest.now c.loop-line.number c.loop-line.invariant.refuses c.in-Some.line.now c.in-Some.behind.now c.in-Some.ensures c.in_err-show_line.field-0.0
+    (subst (λ l. IsLineError c.loop-line.number l c.in_err-show_line.field-0.0) c.without_return.ensures c.in_err-show_line.ensures.err)
 
-pub loop-end-preserved : goal.loop-end-preserved
-loop-end-preserved c =
-    let line : c.without_return-line.result.now ≡ without_return c.front.result.now = c.without_return-line.ensures in
-    let told = c.in_default-show_line.ensures.ok in
-    let shown = subst (λ l. ShowsLine c.loop-end.number l told.0) (line ∙ ap without_return c.front.ensures) told.1.0 in
+pub returns-in_err-show_line-clause-refused : goal.returns-in_err-show_line-clause-refused
+returns-in_err-show_line-clause-refused c =
+    let h : c.from_residual.result ≡ Err c.in_err-show_line.field-0.0 = search rules in
+    rw h (told c)
+
+pub returns-in_err-show_line-clause-exactly : goal.returns-in_err-show_line-clause-exactly
+returns-in_err-show_line-clause-exactly c n fault r =
+    let h : c.from_residual.result ≡ Err c.in_err-show_line.field-0.0 = search rules in
+    elim (own_refusal c.args.bytes.now c.in_err-show_line.field-0.0 (told c) n fault r) [ inl e ↦ inl (h ∙ ap Err e) | inr e ↦ inr (h ∙ ap Err e) ]
+
+pub returns-in_err-show_line-clause-only : goal.returns-in_err-show_line-clause-only
+returns-in_err-show_line-clause-only c text s =
+    let h : c.from_residual.result ≡ Err c.in_err-show_line.field-0.0 = search rules in
+    rw h (no_refusal c.args.bytes.now c.in_err-show_line.field-0.0 (told c) text s)
+
+pub loop-line-preserved : goal.loop-line-preserved
+loop-line-preserved c =
+    let number = c.loop-line.number in
+    let rest = c.loop-line.rest.now in
+    let line = c.in-Some.line.now in
+    let behind = c.in-Some.behind.now in
+    let first = c.in-Some.ensures in
+    let added = c.in_ok-show_line.ensures.ok in
+    let shown = subst (λ l. ShowsLine number l added.0) c.without_return.ensures added.1.0 in
     record {
       shows = λ text s.
-          subst (Shows 1 c.args.bytes.now) (sym (append_assoc c.loop-end.text.items told.0 text) ∙ ap (λ t. t ++ text) (sym told.1.1))
-          (c.loop-end.invariant.shows (told.0 ++ text) (shows_on c.loop-end.number c.loop-end.rest.now told.0 text c.in-Some.end c.in-Some.ensures shown
-          (subst (λ r. Shows (c.loop-end.number + 1) r text) c.behind-rest.ensures s)));
-      refuses = λ n fault r.
-          c.loop-end.invariant.refuses n fault (refuses_on c.loop-end.number c.loop-end.rest.now told.0 n fault c.in-Some.end c.in-Some.ensures shown
-          (subst (λ rest. Refuses (c.loop-end.number + 1) rest n fault) c.behind-rest.ensures r));
-      few =
-          let e = ap length c.behind-rest.ensures ∙ length-drop (c.in-Some.end + 1) c.loop-end.rest.now in
-          let inside = c.in-Some.ensures.inside in
-          let few = c.loop-end.invariant.few in
-          omega arith;
+          subst (Shows 1 c.args.bytes.now) (sym (append_assoc c.loop-line.text.items added.0 text) ∙ ap (λ t. t ++ text) (sym added.1.1))
+          (c.loop-line.invariant.shows (added.0 ++ text) (goes_on number rest line behind added.0 text first shown s));
+      refuses = λ n fault r. c.loop-line.invariant.refuses n fault (later number rest line behind added.0 n fault first shown r);
+      few = let less = shorter rest line behind first in let few = c.loop-line.invariant.few in omega arith;
     }
 
-pub returns-in-Ok-clause-shown : goal.returns-in-Ok-clause-shown
-returns-in-Ok-clause-shown c =
-    let told = c.in-Ok.ensures.ok in
-    subst (Shows 1 c.args.bytes.now) (sym told.1.1) (c.loop-end.invariant.shows told.0 (ends c.loop-end.number c.loop-end.rest.now told.0 c.in_default.ensures told.1.0))
+-- and of the last line
+told_at_end : (c : After-drop-text-in_err-show_line-2) → IsShowError c.args.bytes.now c.in_err-show_line-2.field-0.0
+told_at_end c =
+    error_at_end c.args.bytes.now c.loop-line.rest.now c.loop-line.number c.loop-line.invariant.refuses c.in_default.ensures c.in_err-show_line-2.field-0.0 c.in_err-show_line-2.ensures.err
 
-pub returns-in-Err-show_line-clause-refused : goal.returns-in-Err-show_line-clause-refused
-returns-in-Err-show_line-clause-refused c =
-    subst (IsShowError c.args.bytes.now) (sym c.at-in-Err-show_line.ensures)
-    (error_at_end c.args.bytes.now c.loop-end.rest.now c.loop-end.number c.loop-end.invariant.refuses c.in_default.ensures c.in-Err-show_line.error c.in-Err-show_line.ensures.err)
+pub returns-in_err-show_line-2-clause-refused : goal.returns-in_err-show_line-2-clause-refused
+returns-in_err-show_line-2-clause-refused c =
+    let h : c.from_residual-in_err-show_line-2.result ≡ Err c.in_err-show_line-2.field-0.0 = search rules in
+    rw h (told_at_end c)
+
+pub returns-in_err-show_line-2-clause-exactly : goal.returns-in_err-show_line-2-clause-exactly
+returns-in_err-show_line-2-clause-exactly c n fault r =
+    let h : c.from_residual-in_err-show_line-2.result ≡ Err c.in_err-show_line-2.field-0.0 = search rules in
+    elim (own_refusal c.args.bytes.now c.in_err-show_line-2.field-0.0 (told_at_end c) n fault r) [ inl e ↦ inl (h ∙ ap Err e) | inr e ↦ inr (h ∙ ap Err e) ]
+
+pub returns-in_err-show_line-2-clause-only : goal.returns-in_err-show_line-2-clause-only
+returns-in_err-show_line-2-clause-only c text s =
+    let h : c.from_residual-in_err-show_line-2.result ≡ Err c.in_err-show_line-2.field-0.0 = search rules in
+    rw h (no_refusal c.args.bytes.now c.in_err-show_line-2.field-0.0 (told_at_end c) text s)
+
+-- what was written is the text of the input
+shown : (c : In_ok-show_line-2) → Shows 1 c.args.bytes.now c.show_line-2.new.text.items
+shown c =
+    let added = c.in_ok-show_line-2.ensures.ok in
+    subst (Shows 1 c.args.bytes.now) (sym added.1.1) (c.loop-line.invariant.shows added.0 (ends c.loop-line.number c.loop-line.rest.now added.0 c.in_default.ensures added.1.0))
+
+pub returns-clause-shown : goal.returns-clause-shown
+returns-clause-shown c = shown c
+
+pub returns-clause-exactly : goal.returns-clause-exactly
+returns-clause-exactly c n fault r = absurd (text_or_refusal 1 c.args.bytes.now _ n fault (shown c) r)

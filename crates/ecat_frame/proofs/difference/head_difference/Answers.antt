@@ -1,7 +1,4 @@
-use Rattle.std.proofs.Common.{◌≡◌, ◌∙◌, sym, ap, ◌+◌, Some, None}
-use Rattle.ecat_frame.specs.Commands.{code_of}
-use Rattle.ecat_frame.specs.Difference.{first_apart}
-use Rattle.ecat_frame.specs.FrameGrammar.{word}
+use Rattle.std.proofs.Common.{◌∙◌, sym, ap}
 use Rattle.ecat_frame.proofs.Apart.{ahead}
 use Rattle.ecat_frame.proofs.Heads.{commands_apart, indices_apart, ados_apart, length_words}
 use Rattle.ecat_frame.proofs.difference.head_difference.Goals as goal

@@ -1,4 +1,4 @@
-use Rattle.std.proofs.Common.{◌≡◌, ◌∙◌, length, sym, arith, refl}
+use Rattle.std.proofs.Common.{◌∙◌, length, sym, arith, refl}
 use Rattle.ecat_frame.proofs.Alike.{Read, header_apart, header_alike, heads_apart, heads_alike, all_alike, one_of_both}
 use Rattle.ecat_frame.proofs.frame.Frame.first_difference.Goals as goal
 

@@ -1,6 +1,5 @@
-use Rattle.std.proofs.Common.{◌≤◌, length, ◌≡◌, min}
+use Rattle.std.proofs.Common.{length, ◌≡◌, min}
 use Rattle.ecat_frame.proofs.Alike.{Alike}
-use Rattle.ecat_frame.specs.FrameGrammar.{IsFrame}
 use Rattle.ecat_frame.proofs.frame.Frame.first_difference.Given as goal
 
 abbrev pub invariant-loop-k : goal.invariant-loop-k

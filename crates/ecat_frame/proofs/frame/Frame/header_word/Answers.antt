@@ -1,6 +1,4 @@
-use Rattle.std.proofs.Common.{◌-◌, length, replicate, ap, ◌∙◌}
-use Rattle.ecat_frame.specs.FrameGrammar.{spelling}
-use Rattle.ecat_frame.specs.InsideFrame.{header_in}
+use Rattle.std.proofs.Common.{◌-◌, ◌∙◌}
 use Rattle.ecat_frame.proofs.Kept.{header_in-kept, keeps_value}
 use Rattle.ecat_frame.proofs.frame.Frame.header_word.Goals as goal
 
