@@ -1,4 +1,4 @@
--- How long a frame takes, in fs, as sums over subtrees.
+-- How long a frame takes, in fs, as sums over subtrees. That a slave keeps it tP and then tF is this project's rule.
 use Rattle.std.specs.Prelude.{ℕ, zero, suc, ◌+◌, ◌*◌, Option, Some, None, List, length}
 use Rattle.cable_tree.specs.declared.port.Above.{Above}
 use Rattle.cable_tree.specs.declared.port.Port.{Port}

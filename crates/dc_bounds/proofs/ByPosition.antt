@@ -1,8 +1,8 @@
 -- The rows in frame order have the measuring parents, weights and reference of the rows of the file.
 use Rattle.std.specs.Prelude.{◌≡◌, ℕ, suc, zero, ◌+◌, ◌<◌, Bool, true, false, not, ◌&&◌, ◌||◌, nat_eq, nat_le, if◌then◌else◌, Option, Some, None, List, [], ◌∷◌, length, drop, filter, map, slice_index}
-use Rattle.std.specs.List.{All, find, range_with_len}
+use Rattle.std.specs.List.{All, find}
 use Rattle.std.specs.Option.{is_some, option_map}
-use Rattle.std.proofs.Common.{arith, rules, refl, sym, ap, ap₂, ◌∙◌, subst, zero-add}
+use Rattle.std.proofs.Common.{arith, rules, refl, sym, ap, ap₂, ◌∙◌, subst}
 use Rattle.std.proofs.lemmas.Bool.{false≢true, eqb-true}
 use Rattle.std.proofs.lemmas.Bool.Decides.{nat_tests}
 use Rattle.cable_tree.specs.declared.port.Above.{Above}

@@ -1,8 +1,8 @@
 -- From what a shape tells by positions to the rows of its tree.
-use Rattle.std.specs.Prelude.{◌≡◌, ℕ, ◌+◌, ◌-◌, ◌*◌, ◌<◌, ◌≤◌, ◌^◌, Bool, true, if◌then◌else◌, Option, Some, None, List, length, map, slice_index, slice_index_or}
+use Rattle.std.specs.Prelude.{◌≡◌, ℕ, ◌-◌, ◌*◌, ◌<◌, ◌≤◌, ◌^◌, Bool, true, Some, None, List, length, slice_index, slice_index_or}
 use Rattle.std.specs.List.{All, find}
 use Rattle.std.specs.Option.{option_map}
-use Rattle.std.proofs.Common.{arith, refl, sym, ap, ◌∙◌, subst}
+use Rattle.std.proofs.Common.{arith, sym, ap, ◌∙◌, subst}
 use Rattle.std.proofs.lemmas.List.{length-map}
 use Rattle.cable_tree.specs.declared.port.Port.{Port}
 use Rattle.cable_tree.specs.Row.{Row, IsRow}
@@ -18,7 +18,7 @@ use Rattle.cable_tree.proofs.Standing.{position_at, row_within}
 use Rattle.dc_bounds.specs.DelayBound.{delay_bound}
 use Rattle.dc_bounds.specs.Measurable.{unmeasurable}
 use Rattle.dc_bounds.specs.TickBounds.{tick_gap}
-use Rattle.dc_bounds.specs.TickFacts.{IsNear, IsWithin}
+use Rattle.dc_bounds.specs.TickFacts.{IsNear}
 use Rattle.dc_bounds.specs.Weight.{reference, weight}
 use Rattle.dc_bounds.proofs.ByPosition.{find_low, unmeasurable_here, reference_here, weight_here}
 use Rattle.dc_delay.specs.declared.error.DelayError.{DelayError}
@@ -26,7 +26,7 @@ use Rattle.dc_delay.specs.declared.error.DelayError.TheVariants.{NoReference, Un
 use Rattle.dc_delay.specs.LatchLaw.{AreOfClock, AreLatched, AreAllLatched}
 use Rattle.dc_delay.specs.MeasuredDelay.{delay, delay_list}
 use Rattle.dc_delay.specs.Refusals.{IsRefused, first_timed, first_unmeasurable}
-use Rattle.dc_delay.specs.ShapeRows.{hanging, kinds_of, places_of, positions, rows_of}
+use Rattle.dc_delay.specs.ShapeRows.{hanging, kinds_of, positions, rows_of}
 use Rattle.dc_delay.proofs.Alike.{shape_delay, shape_unmeasurable}
 use Rattle.dc_delay.proofs.Listing.{timed_entry}
 use Rattle.dc_delay.proofs.NearDelays.{bounded}

@@ -1,5 +1,5 @@
 -- Where the slaves of a shape hang, and which of their ports are connected.
-use Rattle.std.specs.Prelude.{◌≡◌, ℕ, suc, ◌+◌, Bool, true, false, ◌||◌, nat_lt, Some, None, List, [], ◌∷◌, length, map, slice_index_or}
+use Rattle.std.specs.Prelude.{◌≡◌, ℕ, suc, ◌+◌, Bool, true, false, ◌||◌, nat_lt, Some, None, List, [], ◌∷◌, length, slice_index_or}
 use Rattle.std.specs.List.{list_any, position, position_or_len}
 use Rattle.std.specs.Option.{is_some}
 use Rattle.std.proofs.Common.{arith, refl, sym, ap, ◌∙◌, cond}

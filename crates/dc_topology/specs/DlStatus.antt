@@ -12,7 +12,7 @@ is_connected status port = bit status (4 + port) && not (bit status (8 + 2 * por
 abbrev pub is_closed : ℕ → ℕ → Bool
 is_closed status port = bit status (8 + 2 * port) && not (bit status (9 + 2 * port))
 
--- port 0 is connected, and every other port is connected or closed
+-- port 0 is connected, and every other port is connected or closed; this project takes no other status
 unfoldable pub is_formed : ℕ → Bool
 is_formed status =
     is_connected status 0

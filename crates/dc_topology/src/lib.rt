@@ -17,6 +17,3 @@ mod walk;
 pub use error::TopologyError;
 pub use shape::Shape;
 pub use walk::topology;
-
-#[cfg(test)]
-mod tests;

@@ -10,6 +10,3 @@ pub mod laws;
 mod status;
 
 pub use status::dl_status;
-
-#[cfg(test)]
-mod tests;

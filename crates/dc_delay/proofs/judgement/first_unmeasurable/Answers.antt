@@ -1,4 +1,4 @@
-use Rattle.std.proofs.Common.{◌<◌, ◌≤◌, length, not, arith, sym, ap, refl, ◌∙◌}
+use Rattle.std.proofs.Common.{◌<◌, ◌≤◌, length, arith, sym, ap, refl, ◌∙◌}
 use Rattle.std.specs.Prelude.{Bool, ◌+◌, ◌-◌}
 use Rattle.std.specs.List.{range_with_len}
 use Rattle.dc_bounds.specs.Weight.{flag}
