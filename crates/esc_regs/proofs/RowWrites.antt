@@ -1,12 +1,12 @@
 -- A write by the rows of the table, one after the other.
-use Rattle.std.proofs.Common.{◌≡◌, ℕ, ◌+◌, ◌-◌, ◌<◌, ◌≤◌, ◌&&◌, ◌||◌, Bool, true, false, List, [], ◌∷◌, length, take, get_or, slice_index, map, refl, sym, ap, ◌∙◌, arith}
+use Rattle.std.proofs.Common.{◌≡◌, ℕ, ◌+◌, ◌-◌, ◌<◌, ◌≤◌, ◌&&◌, ◌||◌, Bool, true, false, List, [], ◌∷◌, length, take, get_or, slice_index, map, refl, sym, ap, ◌∙◌}
 use Rattle.std.specs.Prelude.{if◌then◌else◌}
 use Rattle.std.specs.List.{list_any}
 use Rattle.std.proofs.lemmas.List.{take_all}
 use Rattle.std.proofs.lemmas.List.Folds.{list_any_more}
 use Rattle.esc_regs.specs.declared.clock_kind.ClockKind.{ClockKind}
 use Rattle.esc_regs.specs.declared.table.Writing.{Writing}
-use Rattle.esc_regs.specs.RegisterTable.{Register, registers, row_of, held, is_within}
+use Rattle.esc_regs.specs.RegisterTable.{registers, row_of, held, is_within}
 use Rattle.esc_regs.specs.RegisterAccess.{stores, is_writable, Stores}
 
 -- whether a row of the code's table stores the byte at a

@@ -10,7 +10,7 @@ use Rattle.esc_regs.specs.declared.clock_kind.ClockKind.{ClockKind}
 use Rattle.esc_regs.specs.RegisterBytes.{with_number, number_at}
 use Rattle.esc_regs.specs.RegisterTable.{is_register, is_wide, is_within, held, is_defined}
 use Rattle.esc_regs.specs.RegisterAccess.{Stores, byte_after, is_writable}
-use Rattle.esc_regs.specs.RegisterFile.{HasZeros}
+use Rattle.esc_regs.specs.RegisterFile.{Registers, HasZeros, IsWhole}
 use Rattle.esc_regs.proofs.Numbers.{byte_outside, byte_inside, upper_zeros}
 use Rattle.esc_regs.proofs.TableFacts.{register_defined, undefined_ignored, held_all, lacks_second, upper_undefined}
 
@@ -100,3 +100,7 @@ narrow_number kind addr n x at bytes is eight narrow register zeros number low =
     λ k from to. ap (λ a. slice_index bytes (a + k)) is ∙ zeros.zero_at (addr + k) (upper_undefined kind addr narrow there k from to) in
     let half : x ≡ number_at 4 at bytes = number ∙ ap (λ m. number_at m at bytes) eight ∙ upper_zeros at bytes upper in
     omega (arith, half, low)
+
+pub narrow_half : (r : Registers) (addr : ℕ) → IsWhole r → is_wide r.kind ≡ false → is_register addr 8 ≡ true → number_at 8 addr r.bytes ≡ number_at 4 addr r.bytes
+narrow_half r addr whole narrow register =
+    upper_zeros addr r.bytes (λ k low high. whole.zeros.zero_at (addr + k) (upper_undefined r.kind addr narrow register k low high))

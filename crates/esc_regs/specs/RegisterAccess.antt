@@ -7,7 +7,7 @@ use Rattle.esc_regs.specs.declared.clock_kind.ClockKind.TheVariants as kind
 use Rattle.esc_regs.specs.RegisterBytes.{number_at}
 use Rattle.esc_regs.specs.declared.table.Writing.{Writing}
 use Rattle.esc_regs.specs.declared.table.Writing.TheVariants.{Ignored, Stored, StoredInRange}
-use Rattle.esc_regs.specs.RegisterTable.{Register, registers, held, is_within}
+use Rattle.esc_regs.specs.RegisterTable.{registers, held, is_within}
 
 -- whether the n bytes from an address on have one from low to high - 1
 abbrev pub touches : ℕ → ℕ → ℕ → ℕ → Bool

@@ -1,10 +1,11 @@
 //! Laws over the definitions alone, for proofs of the layers above.
 
-ghost use Rattle.std.specs.Prelude.{◌≡◌, ℕ, ◌+◌, ◌-◌, ◌^◌, ◌<◌, ◌≤◌, IfSome, List, length, true, false};
+ghost use Rattle.std.specs.Prelude.{◌≡◌, ℕ, ◌+◌, ◌-◌, ◌^◌, ◌<◌, ◌≤◌, IfSome, List, length, slice_index, true, false};
 ghost use Rattle.std.specs.Option.{is_some};
 ghost use Rattle.esc_regs.specs.RegisterBytes.{number_at, with_number, AreApart};
 ghost use Rattle.esc_regs.specs.RegisterAccess.{is_refused, is_writable, rate_by, Stores};
-ghost use Rattle.esc_regs.specs.RegisterFile.{Registers};
+ghost use Rattle.esc_regs.specs.RegisterFile.{Registers, IsWhole};
+ghost use Rattle.esc_regs.specs.RegisterTable.{is_register, is_wide};
 ghost use Rattle.esc_regs.specs.RegisterWrite.{written};
 
 /// A number that was stored is loaded again.
@@ -20,6 +21,16 @@ pub fn store_leaves_others()
 /// What is stored leaves the number of bytes.
 pub fn store_leaves_length()
     ensures { (n at x : ℕ) (bytes : List ℕ) → at + n ≤ length bytes → length (with_number n at x bytes) ≡ length bytes }
+{}
+
+/// A number of n bytes is below 256^n.
+pub fn numbers_fit()
+    ensures { (n at : ℕ) (bytes : List ℕ) → ((j : ℕ) → slice_index bytes j < 256) → number_at n at bytes < 256 ^ n }
+{}
+
+/// A register of 8 bytes holds the number of its lower half, where the clock does not have 64 bits.
+pub fn narrow_numbers()
+    ensures { (r : Registers) (addr : ℕ) → IsWhole r → is_wide r.kind ≡ false → is_register addr 8 ≡ true → number_at 8 addr r.bytes ≡ number_at 4 addr r.bytes }
 {}
 
 /// A write that is not refused stores each byte that is writable, and no other; so it leaves the

@@ -1,4 +1,4 @@
-use Rattle.std.proofs.Common.{◌≡◌, ℕ, ◌+◌, length, ap, ◌∙◌, arith}
+use Rattle.std.proofs.Common.{◌+◌, length, ap, ◌∙◌, arith}
 use Rattle.std.specs.Prelude.{slice_range}
 use Rattle.esc_regs.specs.RegisterBytes.{with_number}
 use Rattle.esc_regs.proofs.Showing.{laid_over, cut_digits, cut_length}

@@ -1,4 +1,4 @@
-use Rattle.std.proofs.Common.{ℕ, get_or, Fits, w8, arith}
+use Rattle.std.proofs.Common.{get_or, Fits, w8, arith}
 use Rattle.esc_regs.proofs.Numbers.{number_fits}
 use Rattle.esc_regs.proofs.register_file.word_at.Goals as goal
 

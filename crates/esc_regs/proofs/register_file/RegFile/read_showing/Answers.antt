@@ -1,6 +1,5 @@
-use Rattle.std.proofs.Common.{◌≡◌, length, sym, ap, ◌∙◌, arith, rules}
+use Rattle.std.proofs.Common.{◌≡◌, length, ap, ◌∙◌, arith, rules}
 use Rattle.esc_regs.specs.declared.answers.Access.TheVariants.{Done}
-use Rattle.esc_regs.specs.RegisterTable.{is_wide}
 use Rattle.esc_regs.proofs.Showing.{shown_twice}
 use Rattle.esc_regs.proofs.TableFacts.{held_few}
 use Rattle.esc_regs.proofs.register_file.RegFile.read_showing.Goals as goal
