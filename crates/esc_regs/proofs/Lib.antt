@@ -1,4 +1,7 @@
-pub mod Places
-pub mod Table
+pub mod Numbers
+pub mod TableFacts
 pub mod Zeros
 pub mod Starting
+pub mod RowWrites
+pub mod Storing
+pub mod Showing

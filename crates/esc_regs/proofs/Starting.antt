@@ -1,17 +1,16 @@
 -- The numbers of all registers after those that do not start at 0 are set.
-use Rattle.std.proofs.Common.{◌≡◌, ℕ, ◌+◌, ◌-◌, ◌<◌, ◌≤◌, false, List, [], ◌∷◌, length, slice_index, refl, arith, sym, ap, ◌∙◌, inl, inr}
+use Rattle.std.proofs.Common.{◌≡◌, ℕ, ◌+◌, ◌-◌, ◌≤◌, List, [], ◌∷◌, length, slice_index, refl, arith, sym, ap, ◌∙◌, inl, inr}
 use Rattle.std.specs.Prelude.{if◌then◌else◌}
 use Rattle.std.specs.List.{AllByRecursion}
 use Rattle.std.specs.Int.{byte_at}
 use Rattle.std.proofs.lemmas.Bool.{cases_lt}
-use Rattle.std.proofs.lemmas.Bool.Decides.{nat_tests}
 use Rattle.esc_regs.specs.declared.clock_kind.ClockKind.{ClockKind}
 use Rattle.esc_regs.specs.declared.clock_kind.ClockKind.TheVariants as kind
 use Rattle.esc_regs.specs.RegisterBytes.{with_number, number_at}
 use Rattle.esc_regs.specs.RegisterTable.{Register, registers, features, is_within}
 use Rattle.esc_regs.specs.RegisterFile.{StartsBy}
-use Rattle.esc_regs.proofs.Places.{byte_outside, byte_inside, number_by, number_by-is}
-use Rattle.esc_regs.proofs.Table.{within_test}
+use Rattle.esc_regs.proofs.Numbers.{byte_outside, byte_inside, number_by, number_by-is}
+use Rattle.esc_regs.proofs.TableFacts.{within_test, before_test, past_test}
 
 -- the bytes f with the number x of n bytes written at a place
 abbrev pub put : ℕ → ℕ → ℕ → (ℕ → ℕ) → ℕ → ℕ
@@ -21,12 +20,6 @@ put n at x f a = if is_within a at n then byte_at (a - at) x else f a
 abbrev pub start_byte : ClockKind → ℕ → ℕ
 start_byte kind =
     put 1 0x0935 12 (put 1 0x0934 4 (put 2 0x0930 0x1000 (put 2 0x0008 (features kind) (put 1 0x0000 0x11 (λ a. 0)))))
-
-before_test : (a addr n : ℕ) → a < addr → is_within a addr n ≡ false
-before_test a addr n h = grind (arith, nat_tests)
-
-past_test : (a addr n : ℕ) → addr + n ≤ a → is_within a addr n ≡ false
-past_test a addr n h = grind (arith, nat_tests)
 
 pub put_is : (n at x : ℕ) (old new : List ℕ) (f : ℕ → ℕ) → new ≡ with_number n at x old → at + n ≤ length old → ((a : ℕ) → slice_index old a ≡ f a) → (a : ℕ) → slice_index new a ≡ put n at x f a
 put_is n at x old new f is room same a =

@@ -7,12 +7,12 @@ use Rattle.std.proofs.Math.Nat.{div-eq_of_lt}
 use Rattle.std.proofs.lemmas.List.{get_or-replicate, get_or_past, length-replicate}
 use Rattle.std.specs.Int.{byte_at}
 use Rattle.esc_regs.specs.declared.clock_kind.ClockKind.{ClockKind}
-use Rattle.esc_regs.specs.RegisterBytes.{with_number}
+use Rattle.esc_regs.specs.RegisterBytes.{with_number, number_at}
 use Rattle.esc_regs.specs.RegisterTable.{is_register, is_wide, is_within, held, is_defined}
 use Rattle.esc_regs.specs.RegisterAccess.{Stores, byte_after, is_writable}
-use Rattle.esc_regs.specs.RegisterFile.{HasZeros}
-use Rattle.esc_regs.proofs.Places.{byte_outside, byte_inside}
-use Rattle.esc_regs.proofs.Table.{register_defined, undefined_ignored, held_all, lacks_second}
+use Rattle.esc_regs.specs.RegisterFile.{Registers, HasZeros, IsWhole}
+use Rattle.esc_regs.proofs.Numbers.{byte_outside, byte_inside, upper_zeros}
+use Rattle.esc_regs.proofs.TableFacts.{register_defined, undefined_ignored, held_all, lacks_second, upper_undefined}
 
 byte_past : (j x : ℕ) → 4 ≤ j → j < 8 → x < 2 ^ 32 → byte_at j x ≡ 0
 byte_past zero x low high small = absurd (omega arith)
@@ -91,3 +91,16 @@ zero_read kind bytes addr n k zeros room h undefined =
 
 pub zeros_along : (kind : ClockKind) (old new : List ℕ) → new ≡ old → HasZeros kind old → HasZeros kind new
 zeros_along kind old new is zeros = record { zero_at = λ a undefined. ap (λ bytes. slice_index bytes a) is ∙ zeros.zero_at a undefined }
+
+-- a register of 8 bytes holds its lower half alone where the clock does not have 64 bits
+pub narrow_number : (kind : ClockKind) (addr n x at : ℕ) (bytes : List ℕ) → at ≡ addr → n ≡ 8 → is_wide kind ≡ false → is_register addr n ≡ true → HasZeros kind bytes → x ≡ number_at n at bytes → number_at 4 at bytes < 2 ^ 32 → x < 2 ^ 32
+narrow_number kind addr n x at bytes is eight narrow register zeros number low =
+    let there : is_register addr 8 ≡ true = ap (is_register addr) (sym eight) ∙ register in
+    let upper : (k : ℕ) → 4 ≤ k → k < 8 → slice_index bytes (at + k) ≡ 0 =
+    λ k from to. ap (λ a. slice_index bytes (a + k)) is ∙ zeros.zero_at (addr + k) (upper_undefined kind addr narrow there k from to) in
+    let half : x ≡ number_at 4 at bytes = number ∙ ap (λ m. number_at m at bytes) eight ∙ upper_zeros at bytes upper in
+    omega (arith, half, low)
+
+pub narrow_half : (r : Registers) (addr : ℕ) → IsWhole r → is_wide r.kind ≡ false → is_register addr 8 ≡ true → number_at 8 addr r.bytes ≡ number_at 4 addr r.bytes
+narrow_half r addr whole narrow register =
+    upper_zeros addr r.bytes (λ k low high. whole.zeros.zero_at (addr + k) (upper_undefined r.kind addr narrow register k low high))

@@ -1,4 +1,6 @@
-pub mod RegisterBytes
 pub mod RegisterTable
+pub mod RegisterBytes
 pub mod RegisterAccess
 pub mod RegisterFile
+pub mod RegisterWrite
+pub mod ShownRegisters

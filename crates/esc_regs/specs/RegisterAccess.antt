@@ -1,10 +1,13 @@
--- What reads and writes of a slave's registers answer, change and tell.
+-- What reads and writes of a slave's registers answer, change and tell, by this project's rule of register
+-- access.
 use Rattle.std.specs.Prelude.{◌≡◌, ℕ, ◌+◌, ◌-◌, ◌/◌, ◌&&◌, ◌||◌, ◌==◌, nat_lt, nat_le, Bool, true, false, if◌then◌else◌, List, length, slice_index, Option, Some, None}
 use Rattle.std.specs.List.{list_any}
 use Rattle.esc_regs.specs.declared.clock_kind.ClockKind.{ClockKind}
 use Rattle.esc_regs.specs.declared.clock_kind.ClockKind.TheVariants as kind
 use Rattle.esc_regs.specs.RegisterBytes.{number_at}
-use Rattle.esc_regs.specs.RegisterTable.{Writing, Ignored, Stored, StoredInRange, Register, registers, held, is_within}
+use Rattle.esc_regs.specs.declared.table.Writing.{Writing}
+use Rattle.esc_regs.specs.declared.table.Writing.TheVariants.{Ignored, Stored, StoredInRange}
+use Rattle.esc_regs.specs.RegisterTable.{registers, held, is_within}
 
 -- whether the n bytes from an address on have one from low to high - 1
 abbrev pub touches : ℕ → ℕ → ℕ → ℕ → Bool
@@ -57,14 +60,10 @@ stores in_range Ignored = false
 stores in_range Stored = true
 stores in_range StoredInRange = in_range
 
--- whether a write stores the byte at a, by these rows of the table
-abbrev pub is_stored_by : List Register → ClockKind → Bool → ℕ → Bool
-is_stored_by rows kind in_range a =
-    list_any (λ r. stores in_range r.writes && is_within a r.addr (held kind r.bytes)) rows
-
--- whether a write stores the byte at a
+-- whether a write stores the byte at a: where a register that is stored has it
 unfoldable pub is_writable : ClockKind → Bool → ℕ → Bool
-is_writable kind in_range a = is_stored_by registers kind in_range a
+is_writable kind in_range a =
+    list_any (λ r. stores in_range r.writes && is_within a r.addr (held kind r.bytes)) registers
 
 -- the byte at a after a write of bytes from an address on
 abbrev pub byte_after : ClockKind → Bool → ℕ → List ℕ → List ℕ → ℕ → ℕ

@@ -3,11 +3,11 @@ use Rattle.std.specs.Prelude.{ℕ, ◌+◌, ◌≤◌, ◌⊎◌, List, ◌++◌
 use Rattle.byteorder.specs.Endian.{little_number, little_bytes}
 
 -- the number of n bytes at a place
-abbrev pub number_at : ℕ → ℕ → List ℕ → ℕ
+unfoldable pub number_at : ℕ → ℕ → List ℕ → ℕ
 number_at n at bytes = little_number n (drop at bytes)
 
 -- the bytes with the number x of n bytes written at a place
-abbrev pub with_number : ℕ → ℕ → ℕ → List ℕ → List ℕ
+unfoldable pub with_number : ℕ → ℕ → ℕ → List ℕ → List ℕ
 with_number n at x bytes = take at bytes ++ little_bytes n x ++ drop (at + n) bytes
 
 -- the m bytes at a and the n bytes at b have none in common

@@ -1,14 +1,12 @@
--- The registers of a slave, row by row as the register description of an ESC's data sheet has them.
+-- The registers of a slave, row by row. Addresses, bytes and names are those of the register description in
+-- an ESC's data sheet; what a write does is this project's rule.
 use Rattle.std.specs.Prelude.{ℕ, ◌+◌, ◌&&◌, ◌==◌, nat_lt, nat_le, Bool, true, false, if◌then◌else◌, List, [], ◌∷◌}
 use Rattle.std.specs.List.{list_any}
 use Rattle.esc_regs.specs.declared.clock_kind.ClockKind.{ClockKind}
 use Rattle.esc_regs.specs.declared.clock_kind.ClockKind.TheVariants as kind
-
--- what a write does to a register: nothing, or it stores its bytes, or it stores a speed in its range
-pub data Writing : Type 0 where
-  Ignored : Writing
-  Stored : Writing
-  StoredInRange : Writing
+use Rattle.esc_regs.specs.declared.register.Place.{Place}
+use Rattle.esc_regs.specs.declared.table.Writing.{Writing}
+use Rattle.esc_regs.specs.declared.table.Writing.TheVariants.{Ignored, Stored, StoredInRange}
 
 -- A register: its address, its bytes, its number at the start by the kind of the clock, and what a
 -- write does.
@@ -33,35 +31,43 @@ features kind.C32 = 0x0004
 features kind.C64 = 0x000C
 features kind.R32 = 0x0004
 
--- Address, bytes, number at the start, what a write does, and the data sheet's name. The DL status
--- and the system time are 0 until the slave sets them.
+-- Address, bytes, number at the start, what a write does, and the name. The DL status and the system
+-- time are 0 until the slave sets them.
 abbrev pub registers : List Register
 registers =
     row 0x0000 1 (always 0x11) Ignored  -- Type
     ∷ row 0x0008 2 features Ignored  -- ESC Features supported
     ∷ row 0x0010 2 (always 0) Stored  -- Configured Station Address
     ∷ row 0x0110 2 (always 0) Ignored  -- ESC DL Status
-    ∷ row 0x0900 4 (always 0) Ignored  -- Receive Time Port 0 (a write latches)
+    ∷ row 0x0900 4 (always 0) Ignored  -- Receive Time Port 0
     ∷ row 0x0904 4 (always 0) Ignored  -- Receive Time Port 1
     ∷ row 0x0908 4 (always 0) Ignored  -- Receive Time Port 2
     ∷ row 0x090C 4 (always 0) Ignored  -- Receive Time Port 3
-    ∷ row 0x0910 8 (always 0) Ignored  -- System Time (a write is compared)
+    ∷ row 0x0910 8 (always 0) Ignored  -- System Time
     ∷ row 0x0918 8 (always 0) Ignored  -- Receive Time ECAT Processing Unit
     ∷ row 0x0920 8 (always 0) Stored  -- System Time Offset
     ∷ row 0x0928 4 (always 0) Stored  -- System Time Delay
     ∷ row 0x092C 4 (always 0) Ignored  -- System Time Difference
-    ∷ row 0x0930 2 (always 0x1000) StoredInRange  -- Speed Counter Start (resets the difference)
+    ∷ row 0x0930 2 (always 0x1000) StoredInRange  -- Speed Counter Start
     ∷ row 0x0932 2 (always 0) Ignored  -- Speed Counter Diff
     ∷ row 0x0934 1 (always 4) Stored  -- System Time Difference Filter Depth
     ∷ row 0x0935 1 (always 12) Stored  -- Speed Counter Filter Depth
     ∷ row 0x0980 1 (always 0) Stored  -- Cyclic Unit Control
-    ∷ row 0x0981 1 (always 0) Stored  -- Activation (arms or disarms)
+    ∷ row 0x0981 1 (always 0) Stored  -- Activation
     ∷ row 0x0990 8 (always 0) Stored  -- Start Time Cyclic Operation
     ∷ row 0x09A0 4 (always 0) Stored  -- SYNC0 Cycle Time
     ∷ row 0x09A4 4 (always 0) Stored  -- SYNC1 Cycle Time
     ∷ row 0x09AE 1 (always 0) Ignored  -- Latch0 Status
     ∷ row 0x09B0 8 (always 0) Ignored  -- Latch0 Time Positive Edge
     ∷ []
+
+-- where a register stands
+abbrev pub place_of : Register → Place
+place_of r = record { addr = r.addr; bytes = r.bytes }
+
+-- a register without its number at the start
+abbrev pub row_of : Register → ℕ × ℕ × Writing
+row_of r = (r.addr, r.bytes, r.writes)
 
 -- whether a register of n bytes stands at the address
 abbrev pub is_register : ℕ → ℕ → Bool

@@ -22,3 +22,14 @@ pub struct Written {
     /// Arm or disarm the sync signals by this activation byte.
     pub activation: Option<u8>,
 }
+
+impl Written {
+    /// What a refused write tells.
+    pub(crate) const REFUSED: Written = Written {
+        access: Access::Refused,
+        latched: false,
+        received: None,
+        rate: None,
+        activation: None,
+    };
+}

@@ -37,10 +37,12 @@ impl RegWord for u8 {
 
     ghost same = { λ x y e. e };
 
+    #[tactic(auto, unfolding(crate::specs::RegisterBytes::number_at))]
     fn load(bytes: &[u8], at: usize) -> Self {
         bytes[at]
     }
 
+    #[tactic(auto, unfolding(crate::specs::RegisterBytes::with_number))]
     fn store(self, bytes: &mut [u8], at: usize) {
         bytes[at] = self;
     }
@@ -55,10 +57,12 @@ impl RegWord for u16 {
 
     ghost same = { λ x y e. e };
 
+    #[tactic(auto, unfolding(crate::specs::RegisterBytes::number_at))]
     fn load(bytes: &[u8], at: usize) -> Self {
         LittleEndian::read_u16(&bytes[at..])
     }
 
+    #[tactic(auto, unfolding(crate::specs::RegisterBytes::with_number))]
     fn store(self, bytes: &mut [u8], at: usize) {
         LittleEndian::write_u16(&mut bytes[at..at + 2], self);
     }
@@ -73,10 +77,12 @@ impl RegWord for u32 {
 
     ghost same = { λ x y e. e };
 
+    #[tactic(auto, unfolding(crate::specs::RegisterBytes::number_at))]
     fn load(bytes: &[u8], at: usize) -> Self {
         LittleEndian::read_u32(&bytes[at..])
     }
 
+    #[tactic(auto, unfolding(crate::specs::RegisterBytes::with_number))]
     fn store(self, bytes: &mut [u8], at: usize) {
         LittleEndian::write_u32(&mut bytes[at..at + 4], self);
     }
@@ -91,10 +97,12 @@ impl RegWord for u64 {
 
     ghost same = { λ x y e. e };
 
+    #[tactic(auto, unfolding(crate::specs::RegisterBytes::number_at))]
     fn load(bytes: &[u8], at: usize) -> Self {
         LittleEndian::read_u64(&bytes[at..])
     }
 
+    #[tactic(auto, unfolding(crate::specs::RegisterBytes::with_number))]
     fn store(self, bytes: &mut [u8], at: usize) {
         LittleEndian::write_u64(&mut bytes[at..at + 8], self);
     }

@@ -1,12 +1,14 @@
-ghost use Rattle.std.specs.Prelude.{◌≡◌, ℕ, ◌+◌, ◌^◌, ◌<◌, IsTrue, ◌↔◌, length, slice_index, slice_range, Some, None, true, false};
-ghost use Rattle.std.specs.Option.{is_some};
+ghost use Rattle.std.specs.Prelude.{◌≡◌, ℕ, ◌+◌, ◌^◌, ◌<◌, ◌≤◌, List, IsTrue, ◌↔◌, IfSome, length, slice_index, slice_range, true, false};
 ghost use Rattle.esc_regs.specs.RegisterBytes.{number_at, with_number, AreApart};
 ghost use Rattle.esc_regs.specs.RegisterTable.{is_register, is_wide, is_defined};
-ghost use Rattle.esc_regs.specs.RegisterAccess.{is_refused, latches, received_by, rate_by, activation_by, Stores};
+ghost use Rattle.esc_regs.specs.RegisterAccess.{is_refused};
 ghost use Rattle.esc_regs.specs.RegisterFile.{IsWhole, StartsBy};
+ghost use Rattle.esc_regs.specs.RegisterWrite.{written, told};
+ghost use Rattle.esc_regs.specs.ShownRegisters.{showing, shown};
 
 use crate::answers::{Access, Written};
 use crate::clock_kind::ClockKind;
+use crate::live::Live;
 use crate::names::{Controller, Features, FilterDepth1, FilterDepth2, SpeedStart};
 use crate::reg_word::RegWord;
 use crate::register::Reg;
@@ -61,6 +63,13 @@ impl RegFile {
         file
     }
 
+    /// The kind of the slave.
+    pub fn kind(&self) -> ClockKind
+        ensures { result ≡ self.now.kind }
+    {
+        self.kind
+    }
+
     /// Fills `out` with the bytes from `addr` on, as a frame reads them. A refused read leaves it.
     pub fn read(&self, addr: u16, out: &mut [u8]) -> Access
         ensures refused { result ≡ Access.Refused ↔ (is_refused self.now.kind addr (length out.old) ≡ true) }
@@ -76,29 +85,33 @@ impl RegFile {
         Access::Done
     }
 
+    /// The same, with live numbers in place of what is held of the system time and of the start time.
+    pub fn read_showing(&self, addr: u16, live: Live, out: &mut [u8]) -> Access
+        ensures refused { result ≡ Access.Refused ↔ (is_refused self.now.kind addr (length out.old) ≡ true) }
+        ensures bytes { result ≡ Access.Done → out.new ≡ slice_range (shown live self.now).bytes addr (addr + length out.old) }
+        ensures stays { result ≡ Access.Refused → out.new ≡ out.old }
+    {
+        if self.read(addr, out) == Access::Refused {
+            return Access::Refused;
+        }
+        let start = usize::from(addr);
+        show(self.kind, 0x0910, live.system_time, start, out);
+        show(self.kind, 0x0990, live.next_due, start, out);
+        Access::Done
+    }
+
     /// Stores the bytes from `addr` on, as a frame writes them, and tells what the slave has to do.
     /// Bytes of registers that cannot be written, and of none, are ignored.
     pub fn write(&mut self, addr: u16, bytes: &[u8]) -> Written
-        ensures refused { result.access ≡ Access.Refused ↔ (is_refused self.old.kind addr (length bytes.now) ≡ true) }
-        ensures stays { result.access ≡ Access.Refused → self.new ≡ self.old }
-        ensures silent { result.access ≡ Access.Refused → result ≡ record { access = Access.Refused; latched = false; received = None; rate = None; activation = None } }
-        ensures stored { result.access ≡ Access.Done → Stores self.old.kind (is_some (rate_by addr bytes.now)) addr bytes.now self.old.bytes self.new.bytes }
-        ensures latched { result.access ≡ Access.Done → result.latched ≡ latches addr bytes.now }
-        ensures received { result.access ≡ Access.Done → result.received ≡ received_by addr bytes.now }
-        ensures rate { result.access ≡ Access.Done → result.rate ≡ rate_by addr bytes.now }
-        ensures activation { result.access ≡ Access.Done → result.activation ≡ activation_by addr bytes.now }
+        ensures is { self.new ≡ written self.old addr bytes.now }
+        ensures tells { result ≡ told self.old.kind addr bytes.now }
+        ensures rate { IfSome result.rate (λ g. (2 ≤ g) × (g ≤ 255)) }
         ensures kind { self.new.kind ≡ self.old.kind }
         ensures whole { IsWhole self.new }
     {
         let start = usize::from(addr);
         if rules::is_refused(self.kind, start, bytes.len()) {
-            return Written {
-                access: Access::Refused,
-                latched: false,
-                received: None,
-                rate: None,
-                activation: None,
-            };
+            return Written::REFUSED;
         }
         let rate = rules::rate(start, bytes);
         rules::store_bytes(self.kind, rate.is_some(), &mut self.bytes, start, bytes);
@@ -114,9 +127,11 @@ impl RegFile {
     /// What a register holds.
     pub fn get<W: RegWord, const ADDR: u16>(&self, _reg: Reg<W, ADDR>) -> W
         requires { IsTrue (is_register ADDR W.BYTES) }
-        ensures { W.number result ≡ number_at W.BYTES ADDR self.now.bytes }
+        ensures is { W.number result ≡ number_at W.BYTES ADDR self.now.bytes }
+        ensures fits { W.number result < 256 ^ W.BYTES }
+        ensures narrow { W.BYTES ≡ 8 → is_wide self.now.kind ≡ false → W.number result < 2 ^ 32 }
     {
-        W::load(&self.bytes, usize::from(ADDR))
+        word_at(&self.bytes, usize::from(ADDR))
     }
 
     /// Sets what a register holds, whether frames can write it or not, and has no further effect.
@@ -129,5 +144,26 @@ impl RegFile {
         ensures whole { IsWhole self.new }
     {
         value.store(&mut self.bytes, usize::from(ADDR));
+    }
+}
+
+fn word_at<W: RegWord>(bytes: &[u8], at: usize) -> W
+    requires { at + W.BYTES ≤ length bytes.now }
+    ensures is { W.number result ≡ number_at W.BYTES at bytes.now }
+    ensures fits { W.number result < 256 ^ W.BYTES }
+    ensures low { number_at 4 at bytes.now < 2 ^ 32 }
+{
+    W::load(bytes, at)
+}
+
+/// Puts a live number of an 8-byte register at `at` over the bytes that were read from `start` on.
+fn show(kind: ClockKind, at: usize, number: Option<u64>, start: usize, out: &mut [u8])
+    requires place { at + 8 ≤ 4096 }
+    requires room { start + length out.old ≤ 4096 }
+    ensures { (held : List ℕ) → length held ≡ 4096 → out.old ≡ slice_range held start (start + length out.old) → out.new ≡ slice_range (showing kind at number held) start (start + length out.old) }
+{
+    if let Some(number) = number {
+        let bytes = number.to_le_bytes();
+        rules::overlay(out, start, &bytes[..rules::held(kind, 8)], at);
     }
 }

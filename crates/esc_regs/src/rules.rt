@@ -1,11 +1,13 @@
-//! The rule of register access, over plain addresses and bytes.
+//! This project's rule of register access, over plain addresses and bytes.
 
-ghost use Rattle.std.specs.Prelude.{◌≡◌, ◌+◌, ◌≤◌, ◌<◌, length, drop};
-ghost use Rattle.esc_regs.specs.RegisterTable.{registers, features, held, is_within};
-ghost use Rattle.esc_regs.specs.RegisterAccess.{touches, covers, lacks, is_refused, latches, received_by, rate_by, activation_by, is_stored_by, is_writable, Stores};
+ghost use Rattle.std.specs.Prelude.{◌≡◌, ℕ, ◌+◌, ◌-◌, ◌≤◌, ◌<◌, ◌&&◌, length, slice_index, if◌then◌else◌};
+ghost use Rattle.esc_regs.specs.RegisterTable.{features, held, is_within};
+ghost use Rattle.esc_regs.specs.RegisterAccess.{touches, covers, lacks, is_refused, latches, received_by, rate_by, activation_by, stores};
+ghost use Rattle.esc_regs.specs.RegisterWrite.{stored_bytes};
 
 use crate::clock_kind::ClockKind;
 use crate::reg_word::RegWord;
+use crate::table::{Writing, rows};
 use wrap_time::{ClockWord, T32};
 
 /// The bytes of a register file.
@@ -99,74 +101,67 @@ pub(crate) fn features(kind: ClockKind) -> u16
     }
 }
 
-/// The bytes that a register marked 8 has on such a slave.
-fn wide_bytes(kind: ClockKind) -> usize
-    ensures { result ≡ held kind 8 }
+/// The bytes that a register of `n` bytes has on such a slave.
+pub(crate) fn held(kind: ClockKind, n: usize) -> usize
+    ensures is { result ≡ held kind n }
+    ensures within { result ≤ n }
 {
     match kind {
-        ClockKind::C64 => 8,
-        ClockKind::None | ClockKind::C32 | ClockKind::R32 => 4,
+        ClockKind::C64 => n,
+        ClockKind::None | ClockKind::C32 | ClockKind::R32 => { if n == 8 { 4 } else { n } }
     }
 }
 
-fn is_within(at: usize, addr: usize, n: usize) -> bool
-    requires { addr + n ≤ 4096 }
-    ensures { result ≡ is_within at addr n }
+fn stores(writes: Writing, in_range: bool) -> bool
+    ensures { result ≡ stores in_range writes }
 {
-    addr <= at && at < addr + n
+    match writes {
+        Writing::Ignored => false,
+        Writing::Stored => true,
+        Writing::StoredInRange => in_range,
+    }
 }
 
-// Whether a write stores the byte at `at`, by the rows of the table from one on: the cyclic unit, the
-// control of the clock's speed, its offset and delay, and all.
-
-fn is_cyclic_setting(kind: ClockKind, in_range: bool, at: usize) -> bool
-    ensures { result ≡ is_stored_by (drop 17 registers) kind in_range at }
+/// Lays bytes over others, where both have one: `under` begins at the address `at`, `over` at `addr`.
+pub(crate) fn overlay(under: &mut [u8], at: usize, over: &[u8], addr: usize)
+    requires under { at + length under.old ≤ 4096 }
+    requires over { addr + length over.now ≤ 4096 }
+    ensures { (k : ℕ) → k < length under.old → slice_index under.new k ≡ (if is_within (at + k) addr (length over.now) then slice_index over.now (at + k - addr) else slice_index under.old k) }
 {
-    let wide = wide_bytes(kind);
-    is_within(at, 0x0980, 1)
-        || is_within(at, 0x0981, 1)
-        || is_within(at, 0x0990, wide)
-        || is_within(at, 0x09A0, 4)
-        || is_within(at, 0x09A4, 4)
+    let low = at.max(addr);
+    let high = (at + under.len()).min(addr + over.len());
+    if low < high {
+        under[low - at..high - at].copy_from_slice(&over[low - addr..high - addr]);
+    }
 }
 
-fn is_speed_setting(kind: ClockKind, in_range: bool, at: usize) -> bool
-    ensures { result ≡ is_stored_by (drop 13 registers) kind in_range at }
+/// Stores those of the bytes from `addr` on that stand among the `n` bytes from `at` on.
+fn store_in(held: &mut [u8], at: usize, n: usize, addr: usize, bytes: &[u8])
+    requires size { length held.old ≡ 4096 }
+    requires place { at + n ≤ 4096 }
+    requires bytes { addr + length bytes.now ≤ 4096 }
+    ensures { (a : ℕ) → slice_index held.new a ≡ (if is_within a addr (length bytes.now) && is_within a at n then slice_index bytes.now (a - addr) else slice_index held.old a) }
 {
-    (in_range && is_within(at, 0x0930, 2))
-        || is_within(at, 0x0934, 1)
-        || is_within(at, 0x0935, 1)
-        || is_cyclic_setting(kind, in_range, at)
+    overlay(&mut held[at..at + n], at, bytes, addr);
 }
 
-fn is_clock_setting(kind: ClockKind, in_range: bool, at: usize) -> bool
-    ensures { result ≡ is_stored_by (drop 10 registers) kind in_range at }
-{
-    is_within(at, 0x0920, wide_bytes(kind))
-        || is_within(at, 0x0928, 4)
-        || is_speed_setting(kind, in_range, at)
-}
-
-#[tactic(auto, unfolding(crate::specs::RegisterAccess::is_writable))]
-fn is_writable(kind: ClockKind, in_range: bool, at: usize) -> bool
-    ensures { result ≡ is_writable kind in_range at }
-{
-    is_within(at, 0x0010, 2) || is_clock_setting(kind, in_range, at)
-}
-
+/// The bytes of all registers after a write that is not refused.
 pub(crate) fn store_bytes(
     kind: ClockKind,
     in_range: bool,
-    held: &mut [u8],
+    bytes_held: &mut [u8],
     addr: usize,
     bytes: &[u8],
 )
-    requires { addr + length bytes.now ≤ length held.old }
-    ensures { Stores kind in_range addr bytes.now held.old held.new }
+    requires size { length bytes_held.old ≡ 4096 }
+    requires room { addr + length bytes.now ≤ 4096 }
+    ensures { bytes_held.new ≡ stored_bytes kind in_range addr bytes.now bytes_held.old }
 {
-    for (k, byte) in bytes.iter().enumerate() {
-        if is_writable(kind, in_range, addr + k) {
-            held[addr + k] = *byte;
+    let rows = rows();
+    for row in rows {
+        let (at, n, writes) = *row;
+        if stores(writes, in_range) {
+            store_in(bytes_held, at, held(kind, n), addr, bytes);
         }
     }
 }

@@ -19,9 +19,9 @@ mod word64;
 
 pub use clock_word::ClockWord;
 pub use extension::extend;
-pub use laws::{cuts_of_differences, cuts_of_sums, cuts_of_cuts, latched_differences, near_numbers, offsets, subtracted_and_back};
+pub use laws::{
+    cuts_of_cuts, cuts_of_differences, cuts_of_sums, latched_differences, near_numbers, offsets,
+    subtracted_and_back,
+};
 pub use word32::T32;
 pub use word64::T64;
-
-#[cfg(test)]
-mod tests;

@@ -1,4 +1,4 @@
-use Rattle.esc_regs.proofs.Places.{apart}
+use Rattle.esc_regs.proofs.Numbers.{apart}
 use Rattle.esc_regs.proofs.laws.store_leaves_others.Goals as goal
 
 pub returns : goal.returns

@@ -1,8 +1,8 @@
 use Rattle.std.proofs.Common.{◌≡◌, arith, sym, ap, ◌∙◌}
 use Rattle.esc_regs.specs.RegisterBytes.{number_at, with_number}
 use Rattle.esc_regs.specs.RegisterTable.{is_wide}
-use Rattle.esc_regs.proofs.Places.{apart}
-use Rattle.esc_regs.proofs.Table.{register_within}
+use Rattle.esc_regs.proofs.Numbers.{apart, number_again}
+use Rattle.esc_regs.proofs.TableFacts.{register_within}
 use Rattle.esc_regs.proofs.Zeros.{zeros_after_set, zeros_along}
 use Rattle.esc_regs.proofs.register_file.RegFile.set.Goals as goal
 use Rattle.esc_regs.proofs.register_file.RegFile.set.Given.{Over}
@@ -28,3 +28,9 @@ returns-clause-apart g c = λ at n far.
 
 pub returns-clause-whole : goal.returns-clause-whole
 returns-clause-whole g c = record { size = omega (arith, c.store.auto.bytes, c.self.told); zeros = invariant_of-self g c }
+
+pub returns-clause-gives : goal.returns-clause-gives
+returns-clause-gives g c =
+    let fits = register_within g.row.ADDR g.W.RegWord.BYTES c.requires.register in
+    ap (number_at g.W.RegWord.BYTES g.row.ADDR) (stored g c)
+    ∙ number_again g.W.RegWord.BYTES g.row.ADDR (g.W.RegWord.number c.args.value) c.self.inside.bytes (omega (arith, fits, c.self.told)) c.store.ensures.fits
