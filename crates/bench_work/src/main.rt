@@ -4,6 +4,8 @@
 //!   difference, and writes the sum of what they show.
 //! - `edges FS` lets a unit raise its edges up to a true time, while its clock works off a difference,
 //!   and writes how many edges there are of both signals, and when the last one is.
+//! - `wire FRAMES CYCLE` lets so many frames, one each ms, visit 256 clocks that are armed with a cycle of so
+//!   many ns, or with a cycle of 0 not armed, and writes the sum of what they show and of their edges.
 //! - `trees TIMES` makes so many trees of 256 slaves, half of them a line and half of them with three
 //!   children to a slave, and writes the sum of all their path sums.
 #![tactic(auto)]
@@ -11,7 +13,7 @@
 mod clocks;
 mod trees;
 
-use clocks::{advanced, raise};
+use clocks::{advanced, raise, visited};
 use std::process::ExitCode;
 use std::rt::Env;
 use std::{env, io};
@@ -48,6 +50,10 @@ fn run(rt: &HostRuntime, words: &[String]) -> Option<()> {
             raise(time_fs.parse().ok()?, &mut list)?;
             let last = list.edges().last()?;
             println!(rt; "{} {}", list.edges().len(), last.time_fs).ok()
+        }
+        [what, frames, cycle] if what.as_str() == "wire" => {
+            let sum = visited(rt.alloc(), frames.parse().ok()?, cycle.parse().ok()?)?;
+            println!(rt; "{sum}").ok()
         }
         [what, times] if what.as_str() == "trees" => {
             let sum = path_sums(rt.alloc(), times.parse().ok()?)?;
