@@ -1,2 +1,3 @@
 pub mod BoundLemmas
 pub mod SignalLemmas
+pub mod Greatest

@@ -1,19 +1,20 @@
--- The signals of a segment, one row on.
-use Rattle.std.specs.Prelude.{◌≡◌, ℕ, ◌+◌, ◌<◌, List, ◌++◌, length, map, drop, slice_index_or}
+-- The signals of a segment, one row on, and the greatest window of their pairs.
+use Rattle.std.specs.Prelude.{◌≡◌, ℕ, ◌+◌, ◌<◌, max, List, [], ◌∷◌, ◌++◌, length, map, drop, slice_index_or}
 use Rattle.std.specs.List.{All}
-use Rattle.std.proofs.Common.{ap, sym, subst, ◌∙◌, add-one, arith}
+use Rattle.std.proofs.Common.{ap, sym, subst, refl, ◌∙◌, add-one, arith}
 use Rattle.std.proofs.Math.Seq.{drop-cons}
-use Rattle.std.proofs.lemmas.List.{get_or-map, length-map}
+use Rattle.std.proofs.lemmas.List.{get_or-map, length-map, map-append}
 use Rattle.std.proofs.lemmas.List.Elements.{All-get_or}
 use Rattle.segment_file.specs.Segment.{RowValue, SegmentValue}
 use Rattle.segment_file.specs.Seen.{row_seen}
 use Rattle.segment_file.specs.declared.slave_row.SlaveRow.{SlaveRow}
-use Rattle.segment_bounds.specs.Window.{signals_at, signals_from}
+use Rattle.segment_bounds.specs.Bounded.{bounded, bounded_window}
+use Rattle.segment_bounds.specs.Window.{signals_at, signals_from, greatest_with, greatest, window_of}
 
-signals_step : (s : SegmentValue) (rows : List RowValue) (i : ℕ) (d : RowValue) → i < length rows
-    → signals_from s i (drop i rows) ≡ signals_at s i (slice_index_or rows i d) ++ signals_from s (i + 1) (drop (i + 1) rows)
+signals_step : (rows : List RowValue) (i : ℕ) (d : RowValue) → i < length rows
+    → signals_from i (drop i rows) ≡ signals_at i (slice_index_or rows i d) ++ signals_from (i + 1) (drop (i + 1) rows)
 unfolding signals_from
-signals_step s rows i d low = rw add-one (ap (signals_from s i) (drop-cons rows i d low))
+signals_step rows i d low = rw add-one (ap (signals_from i) (drop-cons rows i d low))
 
 -- the row of a slave
 row_at : (rows : List SlaveRow) (seen : List RowValue) (i : ℕ) (d : SlaveRow) → map row_seen rows ≡ seen → i < length rows → d ≡ slice_index_or rows i d
@@ -28,6 +29,23 @@ pub of_row : (P : RowValue → Type 0) (rows : List SlaveRow) (seen : List RowVa
 of_row P rows seen i d e low is all = subst P (row_at rows seen i d e low is) (All-get_or P seen i (row_seen d) (seen_low rows seen i e low) all)
 
 pub signals_on : (s : SegmentValue) (rows : List SlaveRow) (seen : List RowValue) (i : ℕ) (d : SlaveRow) → map row_seen rows ≡ seen → i < length rows → d ≡ slice_index_or rows i d
-    → signals_from s i (drop i seen) ≡ signals_at s i (row_seen d) ++ signals_from s (i + 1) (drop (i + 1) seen)
+    → map (bounded s) (signals_from i (drop i seen)) ≡ map (bounded s) (signals_at i (row_seen d)) ++ map (bounded s) (signals_from (i + 1) (drop (i + 1) seen))
 signals_on s rows seen i d e low is =
-    signals_step s seen i (row_seen d) (seen_low rows seen i e low) ∙ ap (λ r. signals_at s i r ++ signals_from s (i + 1) (drop (i + 1) seen)) (row_at rows seen i d e low is)
+    ap (map (bounded s)) (signals_step seen i (row_seen d) (seen_low rows seen i e low) ∙ ap (λ r. signals_at i r ++ signals_from (i + 1) (drop (i + 1) seen)) (row_at rows seen i d e low is))
+    ∙ map-append (bounded s) (signals_at i (row_seen d)) (signals_from (i + 1) (drop (i + 1) seen))
+
+-- the greatest of images
+greatest_with_map : {X Y : Type 0} (f : X → Y) (number : Y → Y → ℕ) (a : X) (bs : List X) → greatest_with number (f a) (map f bs) ≡ greatest_with (λ x y. number (f x) (f y)) a bs
+unfolding greatest_with
+greatest_with_map f number a [] = refl
+greatest_with_map f number a (b ∷ bs) = ap (max (number (f a) (f b))) (greatest_with_map f number a bs)
+
+greatest_map : {X Y : Type 0} (f : X → Y) (number : Y → Y → ℕ) (as' : List X) → greatest number (map f as') ≡ greatest (λ x y. number (f x) (f y)) as'
+unfolding greatest
+greatest_map f number [] = refl
+greatest_map f number (a ∷ as') =
+    ap (λ m. max m (greatest number (map f as'))) (greatest_with_map f number a as') ∙ ap (max (greatest_with (λ x y. number (f x) (f y)) a as')) (greatest_map f number as')
+
+pub greatest_of_segment : (s : SegmentValue) → greatest (bounded_window s.head.ppm) (map (bounded s) (signals_from 0 s.rows)) ≡ window_of s
+unfolding window_of
+greatest_of_segment s = greatest_map (bounded s) (bounded_window s.head.ppm) (signals_from 0 s.rows)

@@ -1,3 +1,3 @@
 pub mod Bounds
 pub mod Window
-pub mod IsSignal
+pub mod Bounded

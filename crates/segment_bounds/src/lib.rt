@@ -3,16 +3,19 @@
 //!
 //! Each call puts the numbers of a legal segment into the formulas of `dc_bounds`; that clocks which are
 //! run keep to them is no part of this crate. All are in fs, none takes memory, and a clock is named by
-//! its row. Contracts cite `specs/Bounds.antt` and
-//! `specs/Window.antt`.
+//! its row. Contracts cite `specs/Bounds.antt` and `specs/Window.antt`; what these formulas mean together
+//! is in the [`laws`].
 #![tactic(auto)]
 
+mod bounded;
 mod bounds;
+pub mod laws;
 mod signal;
 mod windows;
 
 pub use bounds::{copy_bound, delay_bound, true_delay};
-pub use windows::window;
+pub use signal::Signal;
+pub use windows::{window, window_between};
 
 #[cfg(test)]
 mod tests;
