@@ -33,7 +33,7 @@ KeepsTime ppm r = is_measuring r ≡ true → IsRunning (oscillator r) × IsWith
 
 -- A legal segment, by its facts alone: its numbers lie in their ranges, a slave has what belongs to its kind,
 -- no two slaves have one id, no frame is listed twice, the slaves are a tree of at most 256, and no fault is
--- found.
+-- found. It is legal exactly where some file says it (the law `legal_by_facts`).
 pub record IsLegal (s : SegmentValue) : Type 0 where
   pub head : IsHead s.head
   pub ids : All (λ r. is_id r.id ≡ true) s.rows

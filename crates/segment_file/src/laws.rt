@@ -2,6 +2,7 @@
 
 ghost use Rattle.std.specs.Prelude.{◌≡◌, ℕ, ◌+◌, ◌*◌, ◌<◌, ◌≤◌, List, None, Some, false, pos, ◌≤ℤ◌};
 ghost use Rattle.std.specs.List.{All};
+ghost use Rattle.serde_json.specs.Written.{compact_text};
 ghost use Rattle.cable_tree.specs.FrameOrder.{order};
 ghost use Rattle.cable_tree.specs.PathSums.{round_trip};
 ghost use Rattle.dc_bounds.specs.LockNumbers.{period_fs};
@@ -14,7 +15,8 @@ ghost use Rattle.segment_file.specs.Faults.{ahead_ns, most_frames, step_of};
 ghost use Rattle.segment_file.specs.Legal.{IsLegal, KeepsTime};
 ghost use Rattle.segment_file.specs.Runs.{is_lost};
 ghost use Rattle.segment_file.specs.Segment.{SegmentValue, counts_of, measures_at, reference_row, signals, tree_rows};
-ghost use Rattle.segment_file.specs.Told.{IsSegmentText, IsTold};
+ghost use Rattle.segment_file.specs.Told.{IsFileOf, IsSegmentText, IsTold};
+ghost use Rattle.segment_file.specs.Written.{segment_data};
 ghost use Rattle.segment_file.specs.declared.seg_error.SegError.{SegError as Error};
 ghost use Rattle.segment_file.specs.declared.seg_error.SegError.TheVariants.{NoMemory};
 
@@ -25,6 +27,14 @@ pub fn one_answer()
     ensures legal { (bytes : List ℕ) (s : SegmentValue) (e : Error) → IsSegmentText bytes s → IsTold bytes e → e ≡ NoMemory }
     ensures refusal { (bytes : List ℕ) (e f : Error) (a b : Failed) → IsTold bytes e → IsTold bytes f
         → failed_by e ≡ Some a → failed_by f ≡ Some b → a ≡ b }
+{}
+
+/// A segment is legal exactly where some text says it and passes all checks: what such a text says has the
+/// facts that make a segment legal, and with them its written file says it, as a JSON value and as a text.
+pub fn legal_by_facts()
+    ensures facts { (bytes : List ℕ) (s : SegmentValue) → IsSegmentText bytes s → IsLegal s }
+    ensures value { (s : SegmentValue) → IsLegal s → IsFileOf (segment_data s) s }
+    ensures text { (s : SegmentValue) → IsLegal s → IsSegmentText (compact_text (segment_data s)) s }
 {}
 
 /// The oscillator of each measuring slave runs, and every gap between its ticks is within the ppm of 10 ns.
