@@ -1,28 +1,34 @@
 -- What a legal segment has.
-use Rattle.std.specs.Prelude.{◌≡◌, ℕ, zero, suc, ◌+◌, ◌*◌, ◌<◌, length, nat_le, ◌≤◌, ℤ, pos, ◌≤ℤ◌, int_lt, nat_lt, Bool, true, false, cond, if◌then◌else◌, ◌||◌, List, [], ◌∷◌, map, count_by, Option, Some, None, option_map, slice_index_or}
+use Rattle.std.specs.Prelude.{◌≡◌, ℕ, zero, suc, is_none, ◌+◌, ◌*◌, ◌<◌, length, nat_le, ◌≤◌, ℤ, pos, ◌≤ℤ◌, int_lt, nat_lt, Bool, true, false, cond, if◌then◌else◌, ◌||◌, List, [], ◌∷◌, map, count_by, Option, Some, None, option_map, slice_index, slice_index_or}
 use Rattle.std.specs.List.{find}
-use Rattle.std.proofs.Common.{arith, refl, subst}
+use Rattle.std.proofs.Common.{arith, refl, subst, ◌∙◌}
 use Rattle.std.proofs.lemmas.Bool.Decides.{nat_tests}
 use Rattle.std.proofs.lemmas.Int.{ints}
 use Rattle.cable_tree.specs.Row.{Row}
 use Rattle.cable_tree.specs.FrameOrder.{order}
 use Rattle.cable_tree.specs.PathSums.{round_trip}
 use Rattle.dc_bounds.specs.LockNumbers.{period_fs}
+use Rattle.dc_bounds.specs.Measurable.{unmeasurable}
+use Rattle.cable_tree.proofs.Rising.{order_within}
+use Rattle.cable_tree.proofs.Members.{order_whole}
 use Rattle.segment_shape.specs.Head.{HeadValue}
 use Rattle.segment_shape.specs.declared.loss_row.LossRow.{LossRow}
-use Rattle.segment_file.specs.declared.counts.Counts.{Counts}
 use Rattle.std.proofs.lemmas.List.{length-map}
-use Rattle.segment_file.specs.Segment.{RowValue, SegmentValue, is_clock, clocks, clock_at, counts_of, tree_row, tree_rows, reference_row}
+use Rattle.segment_file.specs.Segment.{RowValue, SegmentValue, CountsValue, is_clock, clocks, signals, measures_at, clock_at, counts_of, tree_row, tree_rows, reference_row}
 use Rattle.segment_file.specs.Runs.{first_run}
 use Rattle.segment_file.specs.Counted.{IsCounted}
 use Rattle.segment_file.specs.Legal.{IsLegal}
 use Rattle.segment_file.proofs.CountLemmas.{count_by-cons, counted}
-use Rattle.segment_file.specs.Faults.{Fault, too_slow, no_lock, too_much, loss_run, first_of, fault_if, clock_fault, time_fault, fault_of, frame_fault, step_of, lock_in, frames_of_run, most_frames}
+use Rattle.segment_file.specs.Faults.{Fault, too_slow, no_lock, lead, no_reference, ahead_ns, too_much, loss_run, first_of, fault_if, clock_fault, time_fault, fault_of, frame_fault, step_of, lock_in, frames_of_run, most_frames}
 
 -- none of two faults
-neither : (f g : Option Fault) → first_of f g ≡ None → (f ≡ None) × (g ≡ None)
+pub neither : (f g : Option Fault) → first_of f g ≡ None → (f ≡ None) × (g ≡ None)
 neither None g e = (refl, e)
 neither (Some fault) g e = absurd cc
+
+pub mapped_none : {A B : Type 0} (f : A → B) (o : Option A) → option_map f o ≡ None → o ≡ None
+mapped_none f None e = refl
+mapped_none f (Some x) e = absurd cc
 
 unfound : (fault : Fault) (b : Bool) → fault_if fault b ≡ None → b ≡ false
 unfound fault true e = absurd cc
@@ -61,7 +67,7 @@ not_below : (z : ℤ) → int_lt z (pos 1) ≡ false → pos 1 ≤ℤ z
 not_below z e = grind (arith, ints)
 
 -- the clocks come together
-pub some_step : (h : HeadValue) (c : Counts) (rows : List Row) → time_fault h c rows ≡ None → pos 1 ≤ℤ step_of h
+pub some_step : (h : HeadValue) (c : CountsValue) (rows : List Row) → time_fault h c rows ≡ None → pos 1 ≤ℤ step_of h
 unfolding time_fault
 some_step h c rows e = not_below (step_of h) (unfound no_lock (int_lt (step_of h) (pos 1)) (neither _ _ (neither _ _ e).1).0)
 
@@ -69,14 +75,14 @@ neither_test : (a b : Bool) → (a || b) ≡ false → (a ≡ false) × (b ≡ f
 neither_test true b e = absurd cc
 neither_test false b e = (refl, e)
 
-few_by : (x y : ℕ) (run : Option Fault) → first_of run (fault_if too_much (nat_lt 100000 x || nat_lt 200000 y)) ≡ None → x ≤ 100000
+few_by : (x y : ℕ) (run : Option Fault) → first_of run (fault_if too_much (nat_lt 100000 x || nat_lt 200000 y)) ≡ None → (x ≤ 100000) × (y ≤ 200000)
 few_by x y run e =
     let both = neither run (fault_if too_much (nat_lt 100000 x || nat_lt 200000 y)) e in
     let test = neither_test (nat_lt 100000 x) (nat_lt 200000 y) (unfound too_much (nat_lt 100000 x || nat_lt 200000 y) both.1) in
-    grind (arith, nat_tests, test.0)
+    (grind (arith, nat_tests, test.0), grind (arith, nat_tests, test.1))
 
--- the frames of a run are few
-few_frames : (h : HeadValue) (c : Counts) (losses : List LossRow) → frame_fault h c losses ≡ None → most_frames h c ≤ 100000
+-- the frames and edges of a run are few
+few_frames : (h : HeadValue) (c : CountsValue) (losses : List LossRow) → frame_fault h c losses ≡ None → (most_frames h c ≤ 100000) × (h.cycles * c.signals ≤ 200000)
 unfolding frame_fault
 few_frames h c losses e = few_by (most_frames h c) (h.cycles * c.signals) (option_map loss_run (first_run losses (h.loss_run + 1))) e
 
@@ -92,7 +98,10 @@ pub legal_counts : (s : SegmentValue) → IsLegal s → IsCounted (counts_of s.r
 legal_counts s legal = counted s.rows (omega (arith, legal.tree.few, length-map s.rows tree_row))
 
 pub legal_frames : (s : SegmentValue) → IsLegal s → most_frames s.head (counts_of s.rows) ≤ 100000
-legal_frames s legal = few_frames s.head (counts_of s.rows) s.losses (faultless s legal.faultless).2
+legal_frames s legal = (few_frames s.head (counts_of s.rows) s.losses (faultless s legal.faultless).2).0
+
+pub legal_edges : (s : SegmentValue) → IsLegal s → s.head.cycles * signals s.rows ≤ 200000
+legal_edges s legal = (few_frames s.head (counts_of s.rows) s.losses (faultless s legal.faultless).2).1
 
 pub few_to_lock : (s : SegmentValue) → IsLegal s → lock_in s.head (counts_of s.rows) ≤ 100000
 few_to_lock s legal = omega (arith, legal_frames s legal)
@@ -109,3 +118,36 @@ short_trip trip period later e =
 pub legal_round_trip : (s : SegmentValue) → IsLegal s → round_trip (tree_rows s.rows) < period_fs s.head.frame_ns
 unfolding time_fault
 legal_round_trip s legal = short_trip _ _ _ (faultless s legal.faultless).1
+
+near_start : (ahead : ℕ) (trip step : Option Fault) → first_of trip (first_of step (fault_if lead (nat_le 2000000000 ahead))) ≡ None → ahead < 2000000000
+near_start ahead trip step e =
+    let test = unfound lead (nat_le 2000000000 ahead) (neither step _ (neither trip _ e).1).1 in
+    grind (arith, nat_tests, test)
+
+-- no start lies too far ahead
+pub legal_start : (s : SegmentValue) → IsLegal s → ahead_ns s.head (counts_of s.rows) < 2000000000
+unfolding time_fault
+legal_start s legal = near_start _ _ _ (faultless s legal.faultless).1
+
+some_found : {A : Type 0} (o : Option A) → is_none o ≡ false → (x : A) × (o ≡ Some x)
+some_found None e = absurd cc
+some_found (Some x) e = (x, refl)
+
+-- there is a reference
+pub legal_reference : (s : SegmentValue) → IsLegal s → (r : ℕ) × (reference_row s.rows ≡ Some r)
+unfolding clock_fault
+legal_reference s legal = some_found (reference_row s.rows) (unfound no_reference (is_none (reference_row s.rows)) (neither _ _ (neither _ _ (faultless s legal.faultless).0).1).0)
+
+-- every slave that measures can be measured
+pub legal_measurable : (s : SegmentValue) → IsLegal s → unmeasurable (tree_rows s.rows) (measures_at s.rows) (order (tree_rows s.rows)) ≡ None
+unfolding clock_fault
+legal_measurable s legal = mapped_none _ _ (neither _ _ (neither _ _ (faultless s legal.faultless).0).1).1
+
+-- as many places in frame order as rows
+pub order_many : (s : SegmentValue) → IsLegal s → length (order (tree_rows s.rows)) ≡ length s.rows
+order_many s legal = order_whole (tree_rows s.rows) legal.tree.tree legal.tree.slaves ∙ length-map s.rows tree_row
+
+-- a place in frame order is that of a row
+pub row_within : (s : SegmentValue) → IsLegal s → (position : ℕ) → position < length s.rows → slice_index (order (tree_rows s.rows)) position < length s.rows
+row_within s legal position low =
+    omega (arith, order_within (tree_rows s.rows) legal.tree.tree legal.tree.slaves position (omega (arith, low, order_many s legal)), length-map s.rows tree_row)

@@ -2,5 +2,8 @@ pub mod CountLemmas
 pub mod RunLemmas
 pub mod RowLemmas
 pub mod LegalLemmas
+pub mod LossLaws
+pub mod WrittenLemmas
+pub mod ClockLaws
 pub mod FaultLemmas
 pub mod AnswerLemmas

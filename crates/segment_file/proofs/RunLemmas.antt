@@ -1,24 +1,13 @@
--- Marks of lost frames, and runs of them.
-use Rattle.std.specs.Prelude.{replicate, ◌≡◌, ℕ, zero, suc, ◌+◌, ◌-◌, ◌<◌, ◌≤◌, Bool, true, false, List, [], ◌∷◌, length, Some, None}
+-- Runs of lost frames.
+use Rattle.std.specs.Prelude.{◌≡◌, ℕ, zero, suc, ◌+◌, ◌-◌, ◌<◌, ◌≤◌, Bool, true, false, List, ◌∷◌, Some, None, Option, nat_eq, ◌&&◌, if◌then◌else◌, is_some}
 use Rattle.std.specs.List.{find, list_all, range_with_len}
-use Rattle.std.proofs.Common.{arith, refl, ap, ◌∙◌, get_or}
-use Rattle.std.proofs.lemmas.List.{length-replicate}
-use Rattle.segment_file.specs.Runs.{last_number, AreMarks}
+use Rattle.std.proofs.Common.{arith, refl, ap, subst, ◌∙◌}
+use Rattle.std.proofs.lemmas.Bool.Decides.{nat_tests}
+use Rattle.segment_file.specs.Runs.{greatest_number}
 
-get_or-clear : (n i : ℕ) → get_or (replicate n false) i false ≡ false
-get_or-clear zero i = refl
-get_or-clear (suc n) zero = refl
-get_or-clear (suc n) (suc i) = get_or-clear n i
-
-pub clear_marks : (n : ℕ) (marks : List Bool) → n ≡ 100017 → marks ≡ replicate n false → AreMarks [] marks
-clear_marks n marks e clear = record {
-  enough = ap length clear ∙ length-replicate n false ∙ e;
-  told = λ number _. ap (λ ms. get_or ms number false) clear ∙ get_or-clear n number;
-}
-
-pub last_number_is : last_number ≡ 100000
-unfolding last_number
-last_number_is = refl
+pub greatest_number_is : greatest_number ≡ 100000
+unfolding greatest_number
+greatest_number_is = refl
 
 range_step : (n m : ℕ) → n < m → range_with_len n (m - n) ≡ n ∷ range_with_len (n + 1) (m - (n + 1))
 range_step n m h = let e : m - n ≡ suc (m - (n + 1)) = omega arith in rw e refl
@@ -52,3 +41,26 @@ run_whole p a n k h = let e : n - k ≡ 0 = omega arith in rw e refl
 -- the search begins with number 1
 pub whole_range : (p : ℕ → Bool) (n : ℕ) → find p (range_with_len 1 n) ≡ find p (range_with_len 1 ((n + 1) - 1))
 whole_range p n = let e : (n + 1) - 1 ≡ n = omega arith in rw e refl
+
+-- what a search did not find, no number of its range is
+pub found_nowhere : (p : ℕ → Bool) (a n x : ℕ) → find p (range_with_len a n) ≡ None → a ≤ x → x < a + n → p x ≡ false
+found_nowhere p a zero x e low high = absurd (omega (arith, low, high))
+found_nowhere p a (suc n) x e low high = by_pass (p a) refl e (λ h less. found_nowhere p (a + 1) n x h (omega (arith, less)) (omega (arith, high)))
+  where
+    by_place : (b : Bool) → nat_eq a x ≡ b → p a ≡ false → (a < x → p x ≡ false) → p x ≡ false
+    by_place true same is later = let eq : a ≡ x = grind (arith, nat_tests, same) in subst (λ y. p y ≡ false) eq is
+    by_place false other is later = let less : a < x = grind (arith, nat_tests, other, low) in later less
+
+    by_pass : (b : Bool) → p a ≡ b → (if b then Some a else find p (range_with_len (a + 1) n)) ≡ None → (find p (range_with_len (a + 1) n) ≡ None → a < x → p x ≡ false) → p x ≡ false
+    by_pass true is h later = absurd cc
+    by_pass false is h later = by_place (nat_eq a x) refl is (later h)
+
+-- of numbers in a row that do not all pass, one does not
+pub one_fails : (p : ℕ → Bool) (a n : ℕ) → list_all p (range_with_len a n) ≡ false → (x : ℕ) × (a ≤ x) × (x < a + n) × (p x ≡ false)
+one_fails p a zero e = absurd cc
+one_fails p a (suc n) e = by_pass (p a) refl e (one_fails p (a + 1) n)
+  where
+    by_pass : (b : Bool) → p a ≡ b → (b && list_all p (range_with_len (a + 1) n)) ≡ false
+        → (list_all p (range_with_len (a + 1) n) ≡ false → (x : ℕ) × (a + 1 ≤ x) × (x < a + 1 + n) × (p x ≡ false)) → (x : ℕ) × (a ≤ x) × (x < a + suc n) × (p x ≡ false)
+    by_pass false is h later = (a, omega arith, omega arith, is)
+    by_pass true is h later = let more = later h in (more.0, omega (arith, more.1), omega (arith, more.2), more.3)

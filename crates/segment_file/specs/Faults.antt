@@ -11,8 +11,7 @@ use Rattle.dc_bounds.specs.RunNumbers.{run_frames}
 use Rattle.dc_bounds.specs.Measurable.{unmeasurable}
 use Rattle.segment_shape.specs.Head.{HeadValue}
 use Rattle.segment_shape.specs.declared.loss_row.LossRow.{LossRow}
-use Rattle.segment_file.specs.Segment.{RowValue, SegmentValue, tree_rows, is_measuring, measures_at, counts_of, reference_row}
-use Rattle.segment_file.specs.declared.counts.Counts.{Counts}
+use Rattle.segment_file.specs.Segment.{RowValue, SegmentValue, CountsValue, tree_rows, is_measuring, measures_at, counts_of, reference_row}
 use Rattle.segment_file.specs.Runs.{first_run}
 
 pub data Fault : Type 0 where
@@ -57,31 +56,31 @@ abbrev pub step_of : HeadValue → ℤ
 step_of h = lock_step h.ppm h.frame_ns h.speed h.loss_run
 
 -- K, by the counts of the segment
-abbrev pub lock_in : HeadValue → Counts → ℕ
+abbrev pub lock_in : HeadValue → CountsValue → ℕ
 lock_in h c = lock_count h.ppm h.frame_ns h.speed h.loss_run (reach_fs c.measuring c.clocks h.loss_run h.frame_ns)
 
 -- the drift frames of the run phase
-abbrev pub frames_of_run : HeadValue → Counts → ℕ
+abbrev pub frames_of_run : HeadValue → CountsValue → ℕ
 frames_of_run h c = run_frames c.clocks h.loss_run h.frame_ns h.cycle_ns h.cycles
 
 -- how far ahead a start may lie where a 32-bit clock is armed, in ns
-abbrev pub ahead_ns : HeadValue → Counts → ℕ
+abbrev pub ahead_ns : HeadValue → CountsValue → ℕ
 ahead_ns h c = (3 * c.clocks + h.loss_run + 4) * h.frame_ns + 3 * h.cycle_ns
 
 -- of the times: a frame does not come back within a period, the clocks need not come together, or a start may lie too far ahead
-unfoldable pub time_fault : HeadValue → Counts → List Row → Option Fault
+unfoldable pub time_fault : HeadValue → CountsValue → List Row → Option Fault
 time_fault h c rows =
     first_of (fault_if too_slow (nat_le (period_fs h.frame_ns) (round_trip rows)))
     (first_of (fault_if no_lock (int_lt (step_of h) (pos 1)))
     (fault_if lead (nat_le 2000000000 (ahead_ns h c))))
 
 -- the frames of a run in which each exchange takes its three tries
-abbrev pub most_frames : HeadValue → Counts → ℕ
+abbrev pub most_frames : HeadValue → CountsValue → ℕ
 most_frames h c =
     3 * (c.slaves + c.measuring + c.clocks + 3) + lock_in h c + h.loss_run + 1 + 3 * c.clocks + frames_of_run h c
 
 -- of the frames: too many drift frames are lost in a row, or there are too many frames or edges
-unfoldable pub frame_fault : HeadValue → Counts → List LossRow → Option Fault
+unfoldable pub frame_fault : HeadValue → CountsValue → List LossRow → Option Fault
 frame_fault h c losses =
     first_of (option_map loss_run (first_run losses (h.loss_run + 1)))
     (fault_if too_much (nat_lt 100000 (most_frames h c) || nat_lt 200000 (h.cycles * c.signals)))

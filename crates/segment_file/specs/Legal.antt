@@ -1,15 +1,15 @@
 -- Segments that are legal.
-use Rattle.std.specs.Prelude.{◌≡◌, ℕ, ◌<◌, ◌≤◌, true, [], length, map, None, IfSome}
+use Rattle.std.specs.Prelude.{◌≡◌, ℕ, ◌<◌, ◌≤◌, true, false, [], length, map, None, IfSome}
 use Rattle.std.specs.List.{All}
-use Rattle.serde_json.specs.Data.{Data}
-use Rattle.osc_clock.specs.Ticks.{AreRising}
+use Rattle.osc_clock.specs.Ticks.{AreRising, IsRunning}
 use Rattle.cable_tree.specs.Segment.{IsSegment}
-use Rattle.segment_shape.specs.Slaves.{measures, greatest_start}
-use Rattle.segment_shape.specs.Ranges.{IsHead, IsRate, IsLoss}
+use Rattle.dc_bounds.specs.TickFacts.{IsWithin}
+use Rattle.segment_shape.specs.Slaves.{measures, has_clock, greatest_start}
+use Rattle.segment_shape.specs.Ranges.{IsHead, IsRate, IsLoss, AreOnce}
+use Rattle.segment_shape.specs.Values.{is_id}
 use Rattle.segment_shape.specs.Twice.{first_again}
-use Rattle.segment_file.specs.Segment.{RowValue, SegmentValue, tree_rows}
+use Rattle.segment_file.specs.Segment.{RowValue, SegmentValue, is_measuring, oscillator, tree_rows}
 use Rattle.segment_file.specs.Faults.{fault_of}
-use Rattle.segment_file.specs.Told.{Says}
 
 -- the numbers of a slave's clock, in a segment of this cycle time
 pub record IsClock (cycle_ns : ℕ) (r : RowValue) : Type 0 where
@@ -22,16 +22,27 @@ pub record IsClock (cycle_ns : ℕ) (r : RowValue) : Type 0 where
   pub rising : AreRising 0 r.rates
   pub shift_ns : r.shift_ns < cycle_ns
   pub sync1_ns : IfSome r.sync1_ns (λ ns. (1 ≤ ns) × (ns < cycle_ns))
+  -- a slave that does not measure has no oscillator
+  pub silent : measures r.kind ≡ false → (r.start ≡ 0) × (r.phase_fs ≡ 0) × (r.period_fs ≡ 0) × (r.rates ≡ [])
+  -- a slave that is no clock has no signals
+  pub signalless : has_clock r.kind ≡ false → (r.shift_ns ≡ 0) × (r.sync1_ns ≡ None)
 
--- A file says the segment. The slaves are a tree of at most 256, and no fault is found. That its numbers
--- lie in their ranges and that no two slaves have one id follows from what a file can say; it is here for
--- those who count on it.
+-- where the slave measures, its oscillator runs, and keeps within ppm of 10 ns
+abbrev pub KeepsTime : ℕ → RowValue → Type 0
+KeepsTime ppm r = is_measuring r ≡ true → IsRunning (oscillator r) × IsWithin ppm (oscillator r)
+
+-- A legal segment, by its facts alone: its numbers lie in their ranges, a slave has what belongs to its kind,
+-- no two slaves have one id, no frame is listed twice, the slaves are a tree of at most 256, and no fault is
+-- found. It is legal exactly where some file says it (the law `legal_by_facts`).
 pub record IsLegal (s : SegmentValue) : Type 0 where
-  pub said : (d : Data) × Says d s
   pub head : IsHead s.head
+  pub ids : All (λ r. is_id r.id ≡ true) s.rows
   pub clocks : All (IsClock s.head.cycle_ns) s.rows
+  -- in version 1 no period changes
+  pub steady : All (λ r. s.head.version ≡ 1 → r.rates ≡ []) s.rows
   pub few_losses : length s.losses ≤ 10000
   pub losses : All (IsLoss (length s.rows)) s.losses
+  pub once : AreOnce s.losses
   pub distinct : first_again [] (map (λ r. r.id) s.rows) ≡ None
   pub tree : IsSegment (tree_rows s.rows)
   pub faultless : fault_of s ≡ None

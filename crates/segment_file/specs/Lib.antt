@@ -3,6 +3,7 @@ pub mod Placed
 pub mod Runs
 pub mod Faults
 pub mod Counted
+pub mod Written
 pub mod Legal
 pub mod Seen
 pub mod ErrorOf

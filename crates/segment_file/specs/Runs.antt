@@ -1,7 +1,8 @@
 -- Drift frames that are lost in a row.
-use Rattle.std.specs.Prelude.{◌≡◌, ℕ, ◌<◌, Bool, false, Option, List, length, slice_index_or}
+use Rattle.std.specs.Prelude.{ℕ, Bool, Option, List}
 use Rattle.std.specs.List.{find, list_all, range_with_len}
 use Rattle.segment_shape.specs.Losses.{is_listed}
+use Rattle.segment_shape.specs.LossTable.{last_number}
 use Rattle.segment_shape.specs.declared.loss_row.Phase.TheVariants.{Drift}
 use Rattle.segment_shape.specs.declared.loss_row.LossRow.{LossRow}
 
@@ -13,15 +14,10 @@ is_lost losses number = is_listed Drift number losses
 abbrev pub is_run : List LossRow → ℕ → ℕ → Bool
 is_run losses count number = list_all (is_lost losses) (range_with_len number count)
 
--- the greatest number of a lost frame
-unfoldable pub last_number : ℕ
-last_number = 100000
+-- the greatest number of a lost frame, kept shut
+unfoldable pub greatest_number : ℕ
+greatest_number = last_number
 
 -- the first number from which on so many are lost
 abbrev pub first_run : List LossRow → ℕ → Option ℕ
-first_run losses count = find (is_run losses count) (range_with_len 1 last_number)
-
--- marks of the drift frames that are lost, by their numbers: up to the last number, and the 16 behind it, which never are
-pub record AreMarks (losses : List LossRow) (marks : List Bool) : Type 0 where
-  pub enough : length marks ≡ 100017
-  pub told : (number : ℕ) → number < 100017 → slice_index_or marks number false ≡ is_lost losses number
+first_run losses count = find (is_run losses count) (range_with_len 1 greatest_number)

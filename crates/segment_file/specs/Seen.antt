@@ -1,5 +1,6 @@
 -- What a segment holds, as the definitions see it.
-use Rattle.segment_file.specs.Segment.{RowValue}
+use Rattle.segment_file.specs.Segment.{RowValue, CountsValue}
+use Rattle.segment_file.specs.declared.counts.Counts.{Counts}
 use Rattle.segment_file.specs.declared.slave_row.SlaveRow.{SlaveRow}
 
 abbrev pub row_seen : SlaveRow → RowValue
@@ -17,3 +18,6 @@ row_seen r = record {
   shift_ns = r.shift_ns;
   sync1_ns = r.sync1_ns;
 }
+
+abbrev pub counts_seen : Counts → CountsValue
+counts_seen c = record { slaves = c.slaves; measuring = c.measuring; clocks = c.clocks; signals = c.signals }

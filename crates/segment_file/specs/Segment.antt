@@ -1,14 +1,13 @@
 -- A segment: its slaves with their cables and the oscillators of their clocks, and the frames that are lost.
 use Rattle.std.specs.Prelude.{ℕ, ◌+◌, Bool, List, length, map, count_by, Option, is_some}
 use Rattle.esc_regs.specs.declared.clock_kind.ClockKind.{ClockKind}
-use Rattle.osc_clock.specs.Ticks.{Rate}
+use Rattle.osc_clock.specs.Ticks.{Rate, Oscillator}
 use Rattle.cable_tree.specs.declared.port.Above.{Above}
 use Rattle.cable_tree.specs.Row.{Row}
 use Rattle.segment_shape.specs.Head.{HeadValue}
 use Rattle.segment_shape.specs.Slaves.{measures, has_clock}
 use Rattle.segment_shape.specs.declared.loss_row.LossRow.{LossRow}
 use Rattle.dc_bounds.specs.Weight.{flag, reference}
-use Rattle.segment_file.specs.declared.counts.Counts.{Counts}
 
 -- a slave; the numbers of its clock are 0, empty or None where it has none
 pub record RowValue : Type 0 where
@@ -36,6 +35,10 @@ tree_row r = record { above = r.above; tp_ns = r.tp_ns; tf_ns = r.tf_ns; cable_p
 
 abbrev pub tree_rows : List RowValue → List Row
 tree_rows rows = map tree_row rows
+
+-- the oscillator of a slave that measures
+abbrev pub oscillator : RowValue → Oscillator
+oscillator r = record { phase = r.phase_fs; period = r.period_fs; rates = r.rates }
 
 -- the slave takes receive times
 abbrev pub is_measuring : RowValue → Bool
@@ -65,7 +68,13 @@ abbrev pub signals : List RowValue → ℕ
 signals rows = clocks rows + count_by (λ r. is_some r.sync1_ns) rows
 
 -- how many slaves, measuring slaves, clocks and signals there are
-abbrev pub counts_of : List RowValue → Counts
+pub record CountsValue : Type 0 where
+  pub slaves : ℕ
+  pub measuring : ℕ
+  pub clocks : ℕ
+  pub signals : ℕ
+
+abbrev pub counts_of : List RowValue → CountsValue
 counts_of rows = record { slaves = length rows; measuring = measuring rows; clocks = clocks rows; signals = signals rows }
 
 -- the row of the first clock in frame order

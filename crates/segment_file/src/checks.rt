@@ -2,12 +2,12 @@ ghost use Rattle.std.specs.Prelude.{◌≡◌, ◌≤◌, IfErr, IfOk, OnOk, Non
 ghost use Rattle.std.specs.List.{All};
 ghost use Rattle.cable_tree.specs.Row.{IsRow};
 ghost use Rattle.cable_tree.specs.Segment.{IsTree};
-ghost use Rattle.segment_shape.specs.Ranges.{IsHead, IsLoss};
+ghost use Rattle.segment_shape.specs.Ranges.{IsHead};
 ghost use Rattle.segment_shape.specs.Seen.{head_seen};
 ghost use Rattle.segment_file.specs.FaultOf.{IsFaultOf, IsTreeFault};
 ghost use Rattle.segment_file.specs.Faults.{fault_of};
 ghost use Rattle.segment_file.specs.Segment.{counts_of, reference_row, tree_row, tree_rows};
-ghost use Rattle.segment_file.specs.Seen.{row_seen};
+ghost use Rattle.segment_file.specs.Seen.{counts_seen, row_seen};
 
 use crate::clock_checks::check_clocks;
 use crate::counts::{Counts, counts_of};
@@ -17,7 +17,7 @@ use crate::seg_error::SegError;
 use crate::slave_row::SlaveRow;
 use crate::time_checks::check_times;
 use cable_tree::Tree;
-use segment_shape::{Head, LossRow};
+use segment_shape::{Head, LossList};
 use std::alloc::Global;
 
 /// What is known of a segment without fault.
@@ -44,24 +44,22 @@ pub(crate) fn tree_of(alloc: Global, rows: &[SlaveRow]) -> Result<Tree, SegError
 
 /// Whether a segment is without fault.
 pub(crate) fn check(
-    alloc: Global,
     head: Head,
     rows: &[SlaveRow],
     tree: &Tree,
-    losses: &[LossRow],
+    losses: &LossList,
 ) -> Result<Checked, SegError>
     requires head { IsHead (head_seen head) }
     requires few { length rows.now ≤ 256 }
     requires tree { tree.now ≡ tree_rows (map row_seen rows.now) }
-    requires losses { All (IsLoss (length rows.now)) losses.now }
     ensures ok { OnOk result (fault_of (record { head = head_seen head; rows = map row_seen rows.now; losses = losses.now }) ≡ None) }
     ensures reference { IfOk result (λ c. reference_row (map row_seen rows.now) ≡ Some c.reference) }
-    ensures counts { IfOk result (λ c. c.counts ≡ counts_of (map row_seen rows.now)) }
+    ensures counts { IfOk result (λ c. counts_seen c.counts ≡ counts_of (map row_seen rows.now)) }
     ensures err { IfErr result (IsFaultOf (fault_of (record { head = head_seen head; rows = map row_seen rows.now; losses = losses.now }))) }
 {
     let reference = check_clocks(head.ppm, rows, tree)?;
     let counts = counts_of(rows);
     check_times(head, counts, tree)?;
-    check_frames(alloc, head, counts, losses)?;
+    check_frames(head, counts, losses)?;
     Ok(Checked { reference, counts })
 }

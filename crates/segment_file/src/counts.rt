@@ -1,7 +1,7 @@
 ghost use Rattle.std.specs.Prelude.{◌≡◌, ◌≤◌, count_by, is_some, length, map};
 ghost use Rattle.segment_file.specs.Counted.{IsCounted};
 ghost use Rattle.segment_file.specs.Segment.{clocks, counts_of, measuring};
-ghost use Rattle.segment_file.specs.Seen.{row_seen};
+ghost use Rattle.segment_file.specs.Seen.{counts_seen, row_seen};
 
 use crate::slave_row::SlaveRow;
 use segment_shape::{has_clock, measures};
@@ -40,8 +40,8 @@ fn sync1_signals(rows: &[SlaveRow]) -> usize
 /// The counts of these rows.
 pub(crate) fn counts_of(rows: &[SlaveRow]) -> Counts
     requires { length rows.now ≤ 256 }
-    ensures is { result ≡ counts_of (map row_seen rows.now) }
-    ensures counted { IsCounted result }
+    ensures is { counts_seen result ≡ counts_of (map row_seen rows.now) }
+    ensures counted { IsCounted (counts_seen result) }
 {
     let clocks = clocks(rows);
     Counts {

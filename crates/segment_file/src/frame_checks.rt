@@ -1,17 +1,16 @@
 ghost use Rattle.std.specs.Prelude.{◌≡◌, ◌≤◌, ◌*◌, IfErr, OnOk, pos, ◌≤ℤ◌, nat_lt, None};
-ghost use Rattle.std.specs.List.{All};
-ghost use Rattle.segment_shape.specs.Ranges.{IsHead, IsLoss};
+ghost use Rattle.segment_shape.specs.Ranges.{IsHead};
 ghost use Rattle.segment_shape.specs.Seen.{head_seen};
 ghost use Rattle.segment_file.specs.Counted.{IsCounted};
 ghost use Rattle.segment_file.specs.FaultOf.{IsFaultOf};
 ghost use Rattle.segment_file.specs.Faults.{frame_fault, frames_of_run, lock_in, most_frames, step_of};
+ghost use Rattle.segment_file.specs.Seen.{counts_seen};
 
 use crate::counts::Counts;
 use crate::drift_runs::first_run;
 use crate::seg_error::SegError;
 use dc_bounds::{lock_count, reach_fs, run_frames};
-use segment_shape::{Head, LossRow};
-use std::alloc::Global;
+use segment_shape::{Head, LossList};
 
 /// The most transmissions that a run may take.
 const MOST_FRAMES: u128 = 100_000;
@@ -22,10 +21,10 @@ const MOST_EDGES: u64 = 200_000;
 /// K.
 pub(crate) fn lock_in(head: Head, counts: Counts) -> u128
     requires head { IsHead (head_seen head) }
-    requires counts { IsCounted counts }
+    requires counts { IsCounted (counts_seen counts) }
     requires some { 1 ≤ counts.clocks }
     requires step { pos 1 ≤ℤ step_of (head_seen head) }
-    ensures { result ≡ lock_in (head_seen head) counts }
+    ensures { result ≡ lock_in (head_seen head) (counts_seen counts) }
 {
     let reach = reach_fs(
         counts.measuring,
@@ -39,9 +38,9 @@ pub(crate) fn lock_in(head: Head, counts: Counts) -> u128
 /// The drift frames of the run phase.
 pub(crate) fn frames_of_run(head: Head, counts: Counts) -> u128
     requires head { IsHead (head_seen head) }
-    requires counts { IsCounted counts }
+    requires counts { IsCounted (counts_seen counts) }
     requires some { 1 ≤ counts.clocks }
-    ensures { result ≡ frames_of_run (head_seen head) counts }
+    ensures { result ≡ frames_of_run (head_seen head) (counts_seen counts) }
 {
     run_frames(
         counts.clocks,
@@ -55,10 +54,10 @@ pub(crate) fn frames_of_run(head: Head, counts: Counts) -> u128
 // Whether a run may have too many frames.
 fn has_too_many_frames(head: Head, counts: Counts) -> bool
     requires head { IsHead (head_seen head) }
-    requires counts { IsCounted counts }
+    requires counts { IsCounted (counts_seen counts) }
     requires some { 1 ≤ counts.clocks }
     requires step { pos 1 ≤ℤ step_of (head_seen head) }
-    ensures { result ≡ nat_lt 100000 (most_frames (head_seen head) counts) }
+    ensures { result ≡ nat_lt 100000 (most_frames (head_seen head) (counts_seen counts)) }
 {
     let exchanges = u128::from(counts.slaves)
         + u128::from(counts.measuring)
@@ -74,7 +73,7 @@ fn has_too_many_frames(head: Head, counts: Counts) -> bool
 // Whether a run has too many edges.
 fn has_too_many_edges(head: Head, counts: Counts) -> bool
     requires head { IsHead (head_seen head) }
-    requires counts { IsCounted counts }
+    requires counts { IsCounted (counts_seen counts) }
     ensures { result ≡ nat_lt 200000 (head.cycles * counts.signals) }
 {
     u64::from(head.cycles) * u64::from(counts.signals) > MOST_EDGES
@@ -83,21 +82,15 @@ fn has_too_many_edges(head: Head, counts: Counts) -> bool
 /// Whether the frames are without fault: never more than `loss_run` drift frames are lost in a row, and
 /// a run has few enough frames and edges.
 #[tactic(auto, unfolding(crate::specs::Faults::frame_fault))]
-pub(crate) fn check_frames(
-    alloc: Global,
-    head: Head,
-    counts: Counts,
-    losses: &[LossRow],
-) -> Result<(), SegError>
+pub(crate) fn check_frames(head: Head, counts: Counts, losses: &LossList) -> Result<(), SegError>
     requires head { IsHead (head_seen head) }
-    requires counts { IsCounted counts }
+    requires counts { IsCounted (counts_seen counts) }
     requires some { 1 ≤ counts.clocks }
     requires step { pos 1 ≤ℤ step_of (head_seen head) }
-    requires losses { All (IsLoss counts.slaves) losses.now }
-    ensures ok { OnOk result (frame_fault (head_seen head) counts losses.now ≡ None) }
-    ensures err { IfErr result (IsFaultOf (frame_fault (head_seen head) counts losses.now)) }
+    ensures ok { OnOk result (frame_fault (head_seen head) (counts_seen counts) losses.now ≡ None) }
+    ensures err { IfErr result (IsFaultOf (frame_fault (head_seen head) (counts_seen counts) losses.now)) }
 {
-    if let Some(number) = first_run(alloc, counts.slaves, losses, u32::from(head.loss_run) + 1)? {
+    if let Some(number) = first_run(losses, u32::from(head.loss_run) + 1) {
         return Err(SegError::LossRun(number));
     }
     if has_too_many_frames(head, counts) || has_too_many_edges(head, counts) {

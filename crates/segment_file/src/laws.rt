@@ -1,9 +1,22 @@
-//! Laws over the definitions alone, for proofs of the layers above.
+//! Laws over the definitions alone, for proofs of the layers above. Most speak of any legal segment.
 
-ghost use Rattle.std.specs.Prelude.{◌≡◌, ℕ, List, Some};
+ghost use Rattle.std.specs.Prelude.{◌≡◌, ℕ, ◌+◌, ◌*◌, ◌<◌, ◌≤◌, List, None, Some, false, pos, ◌≤ℤ◌};
+ghost use Rattle.std.specs.List.{All};
+ghost use Rattle.serde_json.specs.Written.{compact_text};
+ghost use Rattle.cable_tree.specs.FrameOrder.{order};
+ghost use Rattle.cable_tree.specs.PathSums.{round_trip};
+ghost use Rattle.dc_bounds.specs.LockNumbers.{period_fs};
+ghost use Rattle.dc_bounds.specs.Measurable.{unmeasurable};
+ghost use Rattle.segment_shape.specs.Losses.{loss_at};
+ghost use Rattle.segment_shape.specs.LossTable.{IsNumber};
+ghost use Rattle.segment_shape.specs.declared.loss_row.Phase.{Phase};
 ghost use Rattle.segment_file.specs.Failed.{Failed, failed_by};
-ghost use Rattle.segment_file.specs.Segment.{SegmentValue};
-ghost use Rattle.segment_file.specs.Told.{IsSegmentText, IsTold};
+ghost use Rattle.segment_file.specs.Faults.{ahead_ns, most_frames, step_of};
+ghost use Rattle.segment_file.specs.Legal.{IsLegal, KeepsTime};
+ghost use Rattle.segment_file.specs.Runs.{is_lost};
+ghost use Rattle.segment_file.specs.Segment.{SegmentValue, counts_of, measures_at, reference_row, signals, tree_rows};
+ghost use Rattle.segment_file.specs.Told.{IsFileOf, IsSegmentText, IsTold};
+ghost use Rattle.segment_file.specs.Written.{segment_data};
 ghost use Rattle.segment_file.specs.declared.seg_error.SegError.{SegError as Error};
 ghost use Rattle.segment_file.specs.declared.seg_error.SegError.TheVariants.{NoMemory};
 
@@ -14,4 +27,46 @@ pub fn one_answer()
     ensures legal { (bytes : List ℕ) (s : SegmentValue) (e : Error) → IsSegmentText bytes s → IsTold bytes e → e ≡ NoMemory }
     ensures refusal { (bytes : List ℕ) (e f : Error) (a b : Failed) → IsTold bytes e → IsTold bytes f
         → failed_by e ≡ Some a → failed_by f ≡ Some b → a ≡ b }
+{}
+
+/// A segment is legal exactly where some text says it and passes all checks: what such a text says has the
+/// facts that make a segment legal, and with them its written file says it, as a JSON value and as a text.
+pub fn legal_by_facts()
+    ensures facts { (bytes : List ℕ) (s : SegmentValue) → IsSegmentText bytes s → IsLegal s }
+    ensures value { (s : SegmentValue) → IsLegal s → IsFileOf (segment_data s) s }
+    ensures text { (s : SegmentValue) → IsLegal s → IsSegmentText (compact_text (segment_data s)) s }
+{}
+
+/// The oscillator of each measuring slave runs, and every gap between its ticks is within the ppm of 10 ns.
+pub fn clocks_keep_time()
+    ensures { (s : SegmentValue) → IsLegal s → All (KeepsTime s.head.ppm) s.rows }
+{}
+
+/// There is a reference, and every slave that measures can be measured.
+pub fn slaves_are_measurable()
+    ensures reference { (s : SegmentValue) → IsLegal s → (r : ℕ) × (reference_row s.rows ≡ Some r) }
+    ensures measurable { (s : SegmentValue) → IsLegal s → unmeasurable (tree_rows s.rows) (measures_at s.rows) (order (tree_rows s.rows)) ≡ None }
+{}
+
+/// A frame comes back within a frame period, the clocks come together, and every start lies less than
+/// 2 s ahead.
+pub fn times_fit()
+    ensures trip { (s : SegmentValue) → IsLegal s → round_trip (tree_rows s.rows) < period_fs s.head.frame_ns }
+    ensures step { (s : SegmentValue) → IsLegal s → pos 1 ≤ℤ step_of s.head }
+    ensures start { (s : SegmentValue) → IsLegal s → ahead_ns s.head (counts_of s.rows) < 2000000000 }
+{}
+
+/// Of `loss_run` + 1 drift frames in a row one is not lost, and none is lost whose number is not 1 to
+/// 100,000.
+pub fn frames_come()
+    ensures run { (s : SegmentValue) → IsLegal s → (first : ℕ)
+        → (number : ℕ) × (first ≤ number) × (number ≤ first + s.head.loss_run) × (is_lost s.losses number ≡ false) }
+    ensures outside { (s : SegmentValue) → IsLegal s → (phase : Phase) (number : ℕ) → (IsNumber number → ⊥)
+        → loss_at s.losses phase number ≡ None }
+{}
+
+/// A run has at most 100,000 frames, with three tries of each exchange, and at most 200,000 edges.
+pub fn runs_are_short()
+    ensures frames { (s : SegmentValue) → IsLegal s → most_frames s.head (counts_of s.rows) ≤ 100000 }
+    ensures edges { (s : SegmentValue) → IsLegal s → s.head.cycles * signals s.rows ≤ 200000 }
 {}

@@ -27,6 +27,3 @@ pub use seg_error::{SegError, ShapeTree};
 pub use segment::{Segment, read_segment};
 pub use segment_shape::{Id, KeyPath, LossRow, Phase, has_clock, measures};
 pub use slave_row::{Flags, SlaveRow, clock_flags, measuring_flags};
-
-#[cfg(test)]
-mod tests;

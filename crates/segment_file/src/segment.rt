@@ -1,5 +1,7 @@
-ghost use Rattle.std.specs.Prelude.{◌≡◌, ◌<◌, ◌≤◌, IfErr, IfOk, Ok, Some, length, map, pos, ◌≤ℤ◌};
+ghost use Rattle.std.specs.Prelude.{◌≡◌, ◌<◌, ◌≤◌, IfErr, IfOk, Ok, Some, length, map, pos, ◌≤ℤ◌, slice_index};
 ghost use Rattle.serde_json.specs.Data.{Data};
+ghost use Rattle.cable_tree.specs.FrameOrder.{order};
+ghost use Rattle.segment_shape.specs.Losses.{loss_at};
 ghost use Rattle.segment_shape.specs.Ranges.{IsFile};
 ghost use Rattle.segment_shape.specs.Seen.{shape_seen};
 ghost use Rattle.segment_shape.specs.ShapeOf.{file_of};
@@ -7,7 +9,7 @@ ghost use Rattle.segment_file.specs.Faults.{frames_of_run, lock_in, step_of};
 ghost use Rattle.segment_file.specs.Legal.{IsLegal};
 ghost use Rattle.segment_file.specs.Placed.{placed};
 ghost use Rattle.segment_file.specs.Seen.{row_seen};
-ghost use Rattle.segment_file.specs.Segment.{clocks, counts_of, measuring, reference_row, tree_rows};
+ghost use Rattle.segment_file.specs.Segment.{clocks, counts_of, measuring, reference_row, signals, tree_rows};
 ghost use Rattle.segment_file.specs.Told.{IsRefusal, IsSegmentText, IsTold};
 
 use crate::checks::{check, tree_of};
@@ -18,7 +20,7 @@ use crate::seg_error::SegError;
 use crate::slave_row::SlaveRow;
 use crate::time_checks::step_of;
 use cable_tree::Tree;
-use segment_shape::{Head, LossRow, Shape, read_shape};
+use segment_shape::{Head, LossList, LossRow, Phase, Shape, read_shape};
 use std::alloc::Global;
 use std::marker::Model;
 
@@ -28,7 +30,7 @@ use std::marker::Model;
 pub struct Segment {
     head: Head,
     rows: Vec<SlaveRow>,
-    losses: Vec<LossRow>,
+    losses: LossList,
     tree: Tree,
     reference: u16,
     counts: Counts,
@@ -124,7 +126,7 @@ impl Segment {
         ensures is { result.now ≡ self.now.losses }
         ensures legal { IsLegal self.now }
     {
-        &self.losses
+        self.losses.rows()
     }
 
     /// The slaves as a tree of cables.
@@ -143,6 +145,13 @@ impl Segment {
         self.reference
     }
 
+    /// The number of slaves.
+    pub fn slaves(&self) -> u16
+        ensures { result ≡ length self.now.rows }
+    {
+        self.counts.slaves
+    }
+
     /// The number of clocks.
     pub fn clocks(&self) -> u16
         ensures { result ≡ clocks self.now.rows }
@@ -155,6 +164,37 @@ impl Segment {
         ensures { result ≡ measuring self.now.rows }
     {
         self.counts.measuring
+    }
+
+    /// The number of signals: SYNC0 of each clock, and SYNC1 where it is asked for.
+    pub fn signals(&self) -> u16
+        ensures { result ≡ signals self.now.rows }
+    {
+        self.counts.signals
+    }
+
+    /// The row at a position, the place in frame order counted from 0.
+    pub fn row_at(&self, position: u16) -> u16
+        requires { position < length self.now.rows }
+        ensures is { result ≡ slice_index (order (tree_rows self.now.rows)) position }
+        ensures row { result < length self.now.rows }
+    {
+        self.tree.order()[usize::from(position)]
+    }
+
+    /// The position of the reference clock.
+    pub fn reference_position(&self) -> u16
+        ensures within { result < length self.now.rows }
+        ensures is { reference_row self.now.rows ≡ Some (slice_index (order (tree_rows self.now.rows)) result) }
+    {
+        self.tree.position(self.reference)
+    }
+
+    /// How many slaves the frame of this number in this phase reaches, where it is lost; None where it is not.
+    pub fn loss(&self, phase: Phase, number: u32) -> Option<u16>
+        ensures { result ≡ loss_at self.now.losses phase number }
+    {
+        self.losses.after(phase, number)
     }
 
     /// μ, in ns: what is surely gained on a difference between two drift frames that come; at least 1.
@@ -191,7 +231,7 @@ fn segment_of(alloc: Global, shape: Shape) -> Result<Segment, SegError>
 {
     let rows = placed_rows(alloc, shape.rows)?;
     let tree = tree_of(alloc, &rows)?;
-    let checked = check(alloc, shape.head, &rows, &tree, &shape.losses)?;
+    let checked = check(shape.head, &rows, &tree, &shape.losses)?;
     Ok(Segment {
         head: shape.head,
         rows,

@@ -1,14 +1,14 @@
 -- What stands behind a reading that found no fault.
-use Rattle.std.proofs.Common.{◌≡◌, ap, ℕ, ◌+◌, ◌≤◌, Bool, true, false, List, [], ◌∷◌, ◌++◌, length, Option, Some, None, Ok, Err, refl, option_and_then, arith, subst}
+use Rattle.std.proofs.Common.{◌≡◌, ap, ℕ, ◌+◌, ◌≤◌, Bool, true, false, List, [], ◌∷◌, ◌++◌, length, Option, Some, None, Ok, Err, refl, sym, option_and_then, arith, subst}
 use Rattle.std.specs.Prelude.{option_map, IfSome, if◌then◌else◌}
 use Rattle.std.proofs.lemmas.Bool.{false≢true}
 use Rattle.std.proofs.lemmas.Bool.Decides.{nat_tests}
 use Rattle.std.proofs.lemmas.List.{length-append}
 use Rattle.serde_json.specs.Data.{Data, Items, no_items, item, Members}
 use Rattle.serde_json.specs.Events.{items_len}
-use Rattle.serde_json.specs.Find.{get, as_array, as_number, as_u64}
+use Rattle.serde_json.specs.Find.{get, as_array, as_number, as_str, as_u64}
 use Rattle.segment_shape.specs.Paths.{Reading, ◌>>=◌, within_element}
-use Rattle.segment_shape.specs.Values.{or_fault, within, number_of, number_at, may_be, number_if_any, must_lack, lacking, number_where, option_where, few_items, items_of, items_at, or_empty, items_if_any}
+use Rattle.segment_shape.specs.Values.{or_fault, within, number_of, number_at, may_be, number_if_any, must_lack, lacking, number_where, option_where, is_id, id_text, id_of, id_at, few_items, items_of, items_at, or_empty, items_if_any}
 use Rattle.segment_shape.specs.Keys.{only, are_among}
 use Rattle.segment_shape.specs.Rows.{rows_after}
 
@@ -23,7 +23,7 @@ ok_same x y e = cc e
 some_same : {A : Type 0} (x y : A) → Some x ≡ Some y → x ≡ y
 some_same x y e = cc e
 
-or_fault_ok : {A : Type 0} (path : List ℕ) (o : Option A) (x : A) → or_fault path o ≡ Ok x → o ≡ Some x
+pub or_fault_ok : {A : Type 0} (path : List ℕ) (o : Option A) (x : A) → or_fault path o ≡ Ok x → o ≡ Some x
 or_fault_ok path None x e = absurd (cc e)
 or_fault_ok path (Some y) x e = cc e
 
@@ -65,16 +65,22 @@ number_then key low high d f x e =
     let p = bind_ok (number_at key low high d) f x e in
     (p.0, (number_at_ok key low high d p.0 p.1, p.2))
 
+-- a number of at most this, and at least that where it belongs; 0 where it does not
+pub record IsWhere (belongs : Bool) (low high n : ℕ) : Type 0 where
+  pub most : n ≤ high
+  pub least : belongs ≡ true → low ≤ n
+  pub none : belongs ≡ false → n ≡ 0
+
 -- a number that belongs at a key only in some rows
 pub where_then : {B : Type 0} (belongs : Bool) (key : List ℕ) (low high : ℕ) (d : Data) (f : ℕ → Reading B) (x : B) → (number_where belongs key low high d >>= f) ≡ Ok x
-    → (n : ℕ) × (((n ≤ high) × (belongs ≡ true → low ≤ n)) × (f n ≡ Ok x))
+    → (n : ℕ) × IsWhere belongs low high n × (f n ≡ Ok x)
 where_then true key low high d f x e =
     let p = number_then key low high d f x e in
-    (p.0, ((p.1.0.1, λ _. p.1.0.0), p.1.1))
+    (p.0, record { most = p.1.0.1; least = λ _. p.1.0.0; none = λ h. absurd (false≢true (sym h)) }, p.1.1)
 where_then false key low high d f x e =
     let p = bind_ok (lacking key 0 d) f x e in
     let zero = lacking_ok key 0 p.0 d p.1 in
-    (p.0, ((omega (arith, zero), λ h. absurd (false≢true h)), p.2))
+    (p.0, record { most = omega (arith, zero); least = λ h. absurd (false≢true h); none = λ _. sym zero }, p.2)
 
 may_be_ok : (key : List ℕ) (low high : ℕ) (o : Option Data) (y : Option ℕ) → may_be key (number_of low high) o ≡ Ok y → IfSome y (λ n. (low ≤ n) × (n ≤ high))
 may_be_ok key low high None y e = subst (λ y. IfSome y (λ n. (low ≤ n) × (n ≤ high))) (ok_same None y e) tt
@@ -86,13 +92,30 @@ may_be_ok key low high (Some d) y e = found (number_of low high d) (number_of_ok
 
 -- a number that may stand at a key in some rows
 pub option_then : {B : Type 0} (belongs : Bool) (key : List ℕ) (low high : ℕ) (d : Data) (f : Option ℕ → Reading B) (x : B) → (option_where belongs key low high d >>= f) ≡ Ok x
-    → (o : Option ℕ) × (IfSome o (λ n. (low ≤ n) × (n ≤ high)) × (f o ≡ Ok x))
+    → (o : Option ℕ) × (IfSome o (λ n. (low ≤ n) × (n ≤ high)) × (belongs ≡ false → o ≡ None)) × (f o ≡ Ok x)
 option_then true key low high d f x e =
     let p = bind_ok (number_if_any key low high d) f x e in
-    (p.0, (may_be_ok key low high (get key d) p.0 p.1, p.2))
+    (p.0, (may_be_ok key low high (get key d) p.0 p.1, λ h. absurd (false≢true (sym h))), p.2)
 option_then false key low high d f x e =
     let p = bind_ok (lacking key None d) f x e in
-    (p.0, (subst (λ o. IfSome o (λ n. (low ≤ n) × (n ≤ high))) (lacking_ok key None p.0 d p.1) tt, p.2))
+    let none = lacking_ok key None p.0 d p.1 in
+    (p.0, (subst (λ o. IfSome o (λ n. (low ≤ n) × (n ≤ high))) none tt, λ _. sym none), p.2)
+
+-- what was read is an id
+id_text_ok : (text id : List ℕ) → id_text text ≡ Some id → is_id id ≡ true
+id_text_ok text id e = by_test (is_id text) refl e
+  where
+    by_test : (b : Bool) → is_id text ≡ b → (if b then Some text else None) ≡ Some id → is_id id ≡ true
+    by_test true is h = subst (λ t. is_id t ≡ true) (some_same text id h) is
+    by_test false is h = absurd (cc h)
+
+pub id_of_ok : (d : Data) (id : List ℕ) → id_of d ≡ Some id → is_id id ≡ true
+id_of_ok d id e = let p = then_some id_text (as_str d) id e in id_text_ok p.0 id p.2
+
+pub id_at_ok : (key : List ℕ) (d : Data) (id : List ℕ) → id_at key d ≡ Ok id → is_id id ≡ true
+id_at_ok key d id e =
+    let p = then_some id_of (get key d) id (or_fault_ok key (option_and_then id_of (get key d)) id e) in
+    id_of_ok p.0 id p.2
 
 few_items_ok : (most : ℕ) (ds es : Items) → few_items most ds ≡ Some es → items_len es ≤ most
 few_items_ok most ds es e = grind (arith, nat_tests)

@@ -6,9 +6,11 @@ pub mod Head
 pub mod Rates
 pub mod Slaves
 pub mod Losses
-pub mod Marks
+pub mod LossTable
+pub mod InsideLosses
 pub mod Twice
 pub mod ShapeOf
 pub mod Ranges
+pub mod Written
 pub mod Seen
 pub mod Told

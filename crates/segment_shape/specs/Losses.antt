@@ -1,6 +1,6 @@
 -- The frames that are lost.
-use Rattle.std.specs.Prelude.{ℕ, ◌&&◌, ◌==◌, Bool, true, false, List, [], codes, Option, Some, None, Ok, Err, option_and_then, if◌then◌else◌}
-use Rattle.std.specs.List.{list_any}
+use Rattle.std.specs.Prelude.{ℕ, ◌&&◌, ◌==◌, Bool, true, false, List, [], codes, Option, Some, None, Ok, Err, option_and_then, option_map, if◌then◌else◌}
+use Rattle.std.specs.List.{find, list_any}
 use Rattle.std.specs.Str.{bytes_eq}
 use Rattle.serde_json.specs.Data.{Data}
 use Rattle.serde_json.specs.Find.{get, as_str}
@@ -28,9 +28,17 @@ is_same_phase Commission Drift = false
 is_same_phase Drift Commission = false
 is_same_phase Drift Drift = true
 
--- a row of this phase has this number
+-- the row is that of the frame of this number in this phase
+abbrev pub is_loss_of : Phase → ℕ → LossRow → Bool
+is_loss_of phase number r = is_same_phase r.phase phase && r.number == number
+
+-- the frame of this number in this phase is lost
 abbrev pub is_listed : Phase → ℕ → List LossRow → Bool
-is_listed phase number rows = list_any (λ r. is_same_phase r.phase phase && r.number == number) rows
+is_listed phase number rows = list_any (is_loss_of phase number) rows
+
+-- how many slaves that frame reaches, where it is lost
+abbrev pub loss_at : List LossRow → Phase → ℕ → Option ℕ
+loss_at rows phase number = option_map (λ r. r.after) (find (is_loss_of phase number) rows)
 
 -- a number that no earlier row of the phase has
 abbrev pub unlisted : Phase → List LossRow → ℕ → Reading ℕ

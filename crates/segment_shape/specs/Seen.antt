@@ -62,4 +62,4 @@ row_seen r = record {
 }
 
 abbrev pub shape_seen : Shape → ShapeValue
-shape_seen s = record { head = head_seen s.head; slaves = map row_seen s.rows.items; losses = s.losses.items }
+shape_seen s = record { head = head_seen s.head; slaves = map row_seen s.rows.items; losses = s.losses }

@@ -14,6 +14,7 @@ mod id;
 mod key_path;
 mod known_keys;
 mod laws;
+mod loss_list;
 mod loss_row;
 mod rate_rows;
 mod segment_head;
@@ -24,12 +25,10 @@ mod value_at;
 
 pub use id::Id;
 pub use key_path::KeyPath;
-pub use laws::numbers_in_range;
+pub use laws::files_by_facts;
+pub use loss_list::LossList;
 pub use loss_row::{LossRow, Phase};
 pub use segment_head::Head;
 pub use shape::{Shape, read_shape};
 pub use shape_error::ShapeError;
 pub use slave_row::{Parent, ShapeRow, has_clock, measures};
-
-#[cfg(test)]
-mod tests;

@@ -13,7 +13,8 @@ ghost use Rattle.segment_shape.specs.Told.{IsFault, IsRefusal, IsShape, IsTold};
 use crate::id::Id;
 use crate::key_path::{key_path, within_element};
 use crate::known_keys::are_head_keys;
-use crate::loss_row::{LossList, LossRow, loss_in};
+use crate::loss_list::LossList;
+use crate::loss_row::loss_in;
 use crate::segment_head::{Head, head_of};
 use crate::shape_error::ShapeError;
 use crate::slave_row::{ShapeRow, slave_of};
@@ -28,7 +29,7 @@ pub struct Shape {
     /// At most 256, in the order of the file.
     pub rows: Vec<ShapeRow>,
     /// At most 10,000, in the order of the file.
-    pub losses: Vec<LossRow>,
+    pub losses: LossList,
 }
 
 fn rows_in(alloc: Global, values: &[Value], head: Head) -> Result<Vec<ShapeRow>, ShapeError>
@@ -54,9 +55,9 @@ fn rows_in(alloc: Global, values: &[Value], head: Head) -> Result<Vec<ShapeRow>,
     Ok(rows)
 }
 
-fn losses_in(alloc: Global, values: &[Value], slaves: u16) -> Result<Vec<LossRow>, ShapeError>
+fn losses_in(alloc: Global, values: &[Value], slaves: u16) -> Result<LossList, ShapeError>
     requires { length values.now ≤ 10000 }
-    ensures ok { IfOk result (λ v. rows_after (codes "losses") (loss_in slaves) [] (items_view values.now) ≡ Ok v.items) }
+    ensures ok { IfOk result (λ l. rows_after (codes "losses") (loss_in slaves) [] (items_view values.now) ≡ Ok l) }
     ensures err { IfErr result (IsFault (rows_after (codes "losses") (loss_in slaves) [] (items_view values.now))) }
 {
     let mut losses = LossList::new(alloc)?;
@@ -68,7 +69,7 @@ fn losses_in(alloc: Global, values: &[Value], slaves: u16) -> Result<Vec<LossRow
             }
         }
     }
-    Ok(losses.into_rows())
+    Ok(losses)
 }
 
 /// The shape of a file; two rows may still have one id.

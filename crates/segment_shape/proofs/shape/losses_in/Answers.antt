@@ -14,13 +14,13 @@ within_element-requires c =
 pub returns-in-Err-clause-err : goal.returns-in-Err-clause-err
 returns-in-Err-clause-err c =
     sym c.loop-value.invariant.rows
-    ∙ rows_refused (codes "losses") (loss_in c.args.slaves) c.loop-value.losses.rows.items c.args.values.now c.loop-value.value-index c.value-item.result c.in-Err.path.bytes c.len.result
+    ∙ rows_refused (codes "losses") (loss_in c.args.slaves) c.loop-value.losses c.args.values.now c.loop-value.value-index c.value-item.result c.in-Err.path.bytes c.len.result
     c.within_element.result.bytes c.loop-value-test.true c.value-item.is c.in-Err.ensures.err c.len.ensures c.within_element.ensures
 
 pub loop-value-preserved : goal.loop-value-preserved
 loop-value-preserved c = record {
   rows = rw c.in_ok-push-in-Ok.ensures.ok
-      (rows_kept (codes "losses") (loss_in c.args.slaves) c.loop-value.losses.rows.items c.args.values.now c.loop-value.value-index c.value-item.result c.in-Ok.row
+      (rows_kept (codes "losses") (loss_in c.args.slaves) c.loop-value.losses c.args.values.now c.loop-value.value-index c.value-item.result c.in-Ok.row
       c.loop-value-test.true c.value-item.is c.in-Ok.ensures.ok
       ∙ c.loop-value.invariant.rows);
   each = simp (c.in_ok-push-in-Ok.ensures.ok, length-append) (omega (arith, c.loop-value.invariant.each));
@@ -29,5 +29,4 @@ loop-value-preserved c = record {
 pub returns-clause-ok : goal.returns-clause-ok
 returns-clause-ok c =
     sym c.loop-value.invariant.rows
-    ∙ rows_end (codes "losses") (loss_in c.args.slaves) c.loop-value.losses.rows.items c.args.values.now c.loop-value.value-index (omega arith)
-    ∙ ap Ok (sym c.into_rows.ensures)
+    ∙ rows_end (codes "losses") (loss_in c.args.slaves) c.loop-value.losses c.args.values.now c.loop-value.value-index (omega arith)

@@ -7,7 +7,7 @@ use Rattle.segment_shape.proofs.shape.losses_in.Given as goal
 
 abbrev pub invariant-loop-value : goal.invariant-loop-value
 invariant-loop-value l = record {
-  rows : rows_after (codes "losses") (loss_in l.slaves) l.losses.rows.items (items_view (drop l.value-index l.values))
+  rows : rows_after (codes "losses") (loss_in l.slaves) l.losses (items_view (drop l.value-index l.values))
       ≡ rows_after (codes "losses") (loss_in l.slaves) [] (items_view l.values);
-  each : length l.losses.rows.items ≡ l.value-index;
+  each : length l.losses ≡ l.value-index;
 }

@@ -1,0 +1,29 @@
+//! Cases of segment files: each line of standard input is a case, and is answered by a line.
+//!
+//! - `shape FILE` and `segment FILE` read a file, by `read_shape` or by `read_segment`: `ok`, or the
+//!   refusal. The lines behind it speak of this file.
+//! - `edit OLD|NEW|OLD|NEW..` reads it with each second text in place of the first place of the text
+//!   before it.
+//! - `many COUNT TEXT` reads it with so many zeros as elements behind the first place of a text.
+//! - `head`, `row N`, `losses` write what the file says of the segment, of the slave at row N, and of
+//!   lost frames.
+//! - `numbers`, `order`, `loss PHASE NUMBER` write what a segment makes of it: its counts and lock numbers, the
+//!   rows by position, and how many slaves a lost frame reaches.
+#![tactic(auto)]
+
+mod cases;
+mod refusals;
+mod segments;
+mod shapes;
+
+use cases::Cases;
+use std::io;
+
+fn main(rt: HostRuntime) -> io::Result<()> {
+    let mut cases = Cases::new(rt.alloc());
+    for line in rt.lines(rt.alloc()) {
+        let answer = cases.answer(rt.alloc(), line?.as_str())?;
+        println!(rt; "{answer}")?;
+    }
+    Ok(())
+}

@@ -1,0 +1,97 @@
+ghost use Rattle.std.specs.Prelude.{◌≡◌, ◌≤◌, ◌++◌, ◌∷◌, [], IfOk, OnOk, length};
+ghost use Rattle.segment_shape.specs.Losses.{is_listed, loss_at};
+ghost use Rattle.segment_shape.specs.LossTable.{place_of};
+
+use crate::loss_row::{LossRow, Phase};
+use std::alloc::{AllocError, Global};
+use std::marker::Model;
+
+/// The greatest number of a frame that can be listed as lost.
+const LAST_NUMBER: u32 = 100_000;
+
+/// The frames that are lost, in the order of the file, and by phase and number.
+#[derive(Debug, Drop)]
+pub struct LossList {
+    rows: Vec<LossRow>,
+    table: Vec<Option<u16>>,
+}
+
+impl Model for LossList {
+    ghost use Rattle.std.specs.Prelude.{List};
+    ghost use Rattle.segment_shape.specs.declared.loss_row.LossRow.{LossRow};
+
+    ghost Value = { List LossRow };
+
+    ghost use Rattle.segment_shape.specs.InsideLosses.{rows_of, IsKept};
+
+    ghost view = { rows_of };
+
+    ghost invariant = { IsKept };
+}
+
+// Where a number of a phase stands.
+fn place_of(phase: Phase, number: u32) -> usize
+    requires { number ≤ 100000 }
+    ensures { result ≡ place_of phase number }
+{
+    match phase {
+        Phase::Commission => number as usize,
+        Phase::Drift => (LAST_NUMBER + number) as usize,
+    }
+}
+
+impl LossList {
+    /// No losses.
+    pub fn new(alloc: Global) -> Result<LossList, AllocError>
+        ensures { IfOk result (λ l. l ≡ []) }
+    {
+        let table = vec![in alloc; None; 200_001]?;
+        Ok(LossList {
+            rows: Vec::new(alloc),
+            table,
+        })
+    }
+
+    /// Puts a loss at the end.
+    pub fn push(&mut self, row: LossRow) -> Result<(), AllocError>
+        requires { (1 ≤ row.number) × (row.number ≤ 100000) }
+        ensures ok { OnOk result (self.new ≡ self.old ++ row ∷ []) }
+    {
+        let known = self.after(row.phase, row.number);
+        self.rows.push(row)?;
+        let place = place_of(row.phase, row.number);
+        self.table[place] = known.or(Some(row.after));
+        Ok(())
+    }
+
+    /// Whether the frame of this number in this phase is lost.
+    pub fn lists(&self, phase: Phase, number: u32) -> bool
+        ensures { result ≡ is_listed phase number self.now }
+    {
+        self.after(phase, number).is_some()
+    }
+
+    pub(crate) fn len(&self) -> usize
+        ensures { result ≡ length self.now }
+    {
+        self.rows.len()
+    }
+
+    /// The losses, in the order of the file.
+    pub fn rows(&self) -> &[LossRow]
+        ensures { result.now ≡ self.now }
+    {
+        &self.rows
+    }
+
+    /// How many slaves the frame of this number in this phase reaches, where it is lost; None where it is not.
+    pub fn after(&self, phase: Phase, number: u32) -> Option<u16>
+        ensures { result ≡ loss_at self.now phase number }
+    {
+        if 1 <= number && number <= LAST_NUMBER {
+            self.table[place_of(phase, number)]
+        } else {
+            None
+        }
+    }
+}
