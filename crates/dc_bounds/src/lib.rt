@@ -4,9 +4,10 @@
 //! 10 ns, at most `loss_run` drift frames are lost in a row, and a frame is sent each `frame_ns`.
 //!
 //! Every call computes its formula in `specs/`, which are named by the letters that the literature of this
-//! project uses: G, Q and nmin (`TickBounds`), μ, Z and K (`LockNumbers`), B (`DelayBound`), X and W
-//! (`CopyBound`), lead and the frames of a run (`RunNumbers`). None takes memory. What the formulas mean
-//! for clocks is in the [`laws`], and that a tree may be told by positions in place of rows in [`by_position`].
+//! project uses: G, Q and nmin (`TickBounds`), μ, Z, N and K (`LockNumbers`), B (`DelayBound`), X and W
+//! (`CopyBound`), lead, U, the start and the frames of a run (`RunNumbers`). None takes memory. What the
+//! formulas mean for clocks is in the [`laws`], and that a tree may be told by positions in place of rows
+//! in [`by_position`].
 #![tactic(auto)]
 
 pub mod by_position;
@@ -26,6 +27,3 @@ pub use measurable::unmeasurable;
 pub use run::{lead_ns, run_frames};
 pub use ticks::{jump, least_ticks, tick_gap};
 pub use weights::{reference, weight};
-
-#[cfg(test)]
-mod tests;

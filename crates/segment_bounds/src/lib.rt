@@ -16,6 +16,3 @@ mod windows;
 pub use bounds::{copy_bound, delay_bound, true_delay};
 pub use signal::Signal;
 pub use windows::{window, window_between};
-
-#[cfg(test)]
-mod tests;
