@@ -5,7 +5,7 @@ use Rattle.std.specs.Prelude.{ℕ, ◌+◌, ◌*◌, ◌/◌}
 abbrev pub lead_ns : ℕ → ℕ → ℕ → ℕ
 lead_ns clocks loss_run frame_ns = (3 * clocks + loss_run + 2) * frame_ns
 
--- U: the time from there to the last edge and a cycle more
+-- U: a time, from there on, that reaches past the last edge of every signal
 abbrev pub reach_ns : ℕ → ℕ → ℕ → ℕ → ℕ → ℕ
 reach_ns clocks loss_run frame_ns cycle_ns cycles = lead_ns clocks loss_run frame_ns + (cycles + 2) * cycle_ns
 

@@ -3,8 +3,8 @@
 //! stay, and how long a run is. They rest on three facts: each gap between two ticks is within `ppm` of
 //! 10 ns, at most `loss_run` drift frames are lost in a row, and a frame is sent each `frame_ns`.
 //!
-//! Every call computes its formula in `specs/`, which are named by the letters that the literature of this
-//! project uses: G, Q and nmin (`TickBounds`), μ, Z, N and K (`LockNumbers`), B (`DelayBound`), X and W
+//! Every call computes its formula in `specs/`, which are named by the letters of
+//! docs/DEFINITIONS.md: G, Q and nmin (`TickBounds`), μ, Z, N and K (`LockNumbers`), B (`DelayBound`), X and W
 //! (`CopyBound`), lead, U, the start and the frames of a run (`RunNumbers`). None takes memory. What the
 //! formulas mean for clocks is in the [`laws`], and that a tree may be told by positions in place of rows
 //! in [`by_position`].

@@ -14,6 +14,7 @@ use std::alloc::{AllocError, Global};
 
 /// The frames of these lines in words: for each line that is not empty `frame L bytes B datagrams D`, and a line for each of its
 /// datagrams. Lines are counted from 1, the empty ones too. `BadFrame` comes for the first line that is no frame in hexadecimal digits.
+/// An input has at most 16,777,216 bytes.
 pub fn show(alloc: Global, bytes: &[u8]) -> Result<Vec<u8>, ShowError>
     requires { length bytes.now ≤ 16777216 }
     ensures shown { IfOk result (λ text. Shows 1 bytes.now text.items) }

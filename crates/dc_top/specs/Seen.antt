@@ -43,7 +43,7 @@ command_seen task.Again = word.Again
 command_seen (task.Latch position time_fs) = word.Latch position time_fs
 command_seen task.Rate = word.Rate
 
--- the check that an input fails, which may be no JSON text
+-- the error of `segment_file` that a refusal stands for
 abbrev pub refusal_error : Refusal → SegError
 refusal_error refusal.BadText = error.BadText
 refusal_error (refusal.BadSegment fault) = error_of fault

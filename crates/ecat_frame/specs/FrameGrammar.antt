@@ -1,4 +1,5 @@
--- EtherCAT frames and the bytes that they are (ETG.1000.4, sections 5.3 and 5.4).
+-- EtherCAT frames and the bytes that they are (ETG.1000.4, sections 5.3 and 5.4). That padding may be missing
+-- is this project's rule.
 use Rattle.std.specs.Prelude.{◌≡◌, ℕ, ◌+◌, ◌-◌, ◌*◌, ◌^◌, ◌<◌, ◌≤◌, List, [], ◌∷◌, ◌++◌, length}
 use Rattle.std.specs.List.{All}
 use Rattle.byteorder.specs.Endian.{little_bytes}

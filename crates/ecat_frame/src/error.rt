@@ -15,7 +15,8 @@ pub enum FrameError {
     Length(usize),
     /// No command has this number.
     Command(usize),
-    /// The more bit says that a datagram follows and none can, or the other way round.
+    /// The more bit says that a datagram follows and none can, or the other way round; or what is left of the
+    /// header's length behind the datagram is no place for one, whatever the bit says.
     More(usize),
     /// A byte stands behind the greatest padding.
     TooLong(usize),

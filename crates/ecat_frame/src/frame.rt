@@ -14,8 +14,8 @@ use crate::layout::{ADP, FIRST, HEADER, MAX_LENGTH, OVERHEAD, PAYLOAD};
 use crate::scan::check;
 use std::marker::Model;
 
-/// A frame: two addresses, one or more datagrams, and padding, as ETG.1000.4 wants them (`IsFrame` of
-/// `specs/FrameGrammar.antt`).
+/// A frame: two addresses and one or more datagrams, as ETG.1000.4 lays them out, and padding, which may be
+/// missing by this project's rule (`IsFrame` of `specs/FrameGrammar.antt`).
 // Behind its bytes the array has zeros, so that equal frames are equal arrays.
 #[derive(Clone, Copy, Debug)]
 pub struct Frame {

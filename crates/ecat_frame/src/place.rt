@@ -10,7 +10,7 @@ use crate::layout::{
     TYPE_UNIT,
 };
 
-/// Where the next byte of a frame stands, as `Place` of `specs/Refusals.antt` has it. `room` is how much
+/// Where the next byte of a frame stands, as `Place` of `specs/FramePlace.antt` has it. `room` is how much
 /// padding may follow the datagrams, and `left` what is left of the header's length from the datagram's
 /// first byte on.
 #[derive(Clone, Copy)]

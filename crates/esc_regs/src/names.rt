@@ -26,19 +26,19 @@ pub type ReceivePort2 = Reg<u32, 0x0908>;
 /// The same for port 3.
 pub type ReceivePort3 = Reg<u32, 0x090C>;
 
-/// The slave's copy of the system time, in ns.
+/// The slave's copy of the system time: its local copy less the propagation delay, in ns.
 pub type SystemTime = Reg<u64, 0x0910>;
 
 /// The local time at which a latching frame came to the processing unit, in ns.
 pub type ReceiveUnit = Reg<u64, 0x0918>;
 
-/// What the system time is ahead of the local time, in ns.
+/// What the local copy is ahead of the local time, in ns.
 pub type Offset = Reg<u64, 0x0920>;
 
 /// The propagation delay from the reference clock, in ns.
 pub type Delay = Reg<u32, 0x0928>;
 
-/// How far the local copy is from the received time: bit 31 its sign, the rest its size in ns.
+/// How far the system time is ahead of the received one: bit 31 its sign, the rest its size in ns.
 pub type Difference = Reg<u32, 0x092C>;
 
 /// The start of the speed counter, which sets how fast a difference is corrected.
@@ -59,7 +59,7 @@ pub type CyclicControl = Reg<u8, 0x0980>;
 /// Bit 0: the cyclic unit, bit 1: SYNC0, bit 2: SYNC1.
 pub type Activation = Reg<u8, 0x0981>;
 
-/// The system time of the first sync signal, in ns.
+/// The local copy at which the first sync signal is due, in ns.
 pub type StartTime = Reg<u64, 0x0990>;
 
 /// The time between SYNC0 signals, in ns.
@@ -71,5 +71,5 @@ pub type Sync1Time = Reg<u32, 0x09A4>;
 /// Bit 0: the latch input 0 has taken the time of an event.
 pub type Latch0Status = Reg<u8, 0x09AE>;
 
-/// The system time of a positive edge at latch input 0, in ns.
+/// The local copy at a positive edge of latch input 0, in ns.
 pub type Latch0Positive = Reg<u64, 0x09B0>;

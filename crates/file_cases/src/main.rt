@@ -7,8 +7,9 @@
 //! - `many COUNT TEXT` reads it with so many zeros as elements behind the first place of a text.
 //! - `head`, `row N`, `losses` write what the file says of the segment, of the slave at row N, and of
 //!   lost frames.
-//! - `numbers`, `order`, `loss PHASE NUMBER` write what a segment makes of it: its counts and lock numbers, the
-//!   rows by position, and how many slaves a lost frame reaches.
+//! - `numbers`, `flags`, `order`, `drift N`, `commission N` write what a segment makes of it: its counts and lock
+//!   numbers, which rows are clocks and measure, the rows by position, and how many slaves a frame that is
+//!   listed as lost reaches.
 #![tactic(auto)]
 
 mod cases;

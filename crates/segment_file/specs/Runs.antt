@@ -1,4 +1,4 @@
--- Drift frames that are lost in a row.
+-- Drift frames that are listed as lost in a row.
 use Rattle.std.specs.Prelude.{ℕ, Bool, Option, List}
 use Rattle.std.specs.List.{find, list_all, range_with_len}
 use Rattle.segment_shape.specs.Losses.{is_listed}
@@ -6,11 +6,11 @@ use Rattle.segment_shape.specs.LossTable.{last_number}
 use Rattle.segment_shape.specs.declared.loss_row.Phase.TheVariants.{Drift}
 use Rattle.segment_shape.specs.declared.loss_row.LossRow.{LossRow}
 
--- the drift frame of this number is lost
+-- the drift frame of this number is listed as lost
 abbrev pub is_lost : List LossRow → ℕ → Bool
 is_lost losses number = is_listed Drift number losses
 
--- so many drift frames are lost from this number on
+-- so many drift frames are listed from this number on
 abbrev pub is_run : List LossRow → ℕ → ℕ → Bool
 is_run losses count number = list_all (is_lost losses) (range_with_len number count)
 

@@ -30,7 +30,7 @@ pub fn one_answer()
 {}
 
 /// A segment is legal exactly where some text says it and passes all checks: what such a text says has the
-/// facts that make a segment legal, and with them its written file says it, as a JSON value and as a text.
+/// facts that make a segment legal, and with them a JSON value says it, and that value's compact text.
 pub fn legal_by_facts()
     ensures facts { (bytes : List ℕ) (s : SegmentValue) → IsSegmentText bytes s → IsLegal s }
     ensures value { (s : SegmentValue) → IsLegal s → IsFileOf (segment_data s) s }
@@ -48,16 +48,16 @@ pub fn slaves_are_measurable()
     ensures measurable { (s : SegmentValue) → IsLegal s → unmeasurable (tree_rows s.rows) (measures_at s.rows) (order (tree_rows s.rows)) ≡ None }
 {}
 
-/// A frame comes back within a frame period, the clocks come together, and every start lies less than
-/// 2 s ahead.
+/// A frame comes back within a frame period, each drift frame that arrives brings a clock nearer by 1 ns or
+/// more, and the lead with two periods and three cycles is less than 2 s.
 pub fn times_fit()
     ensures trip { (s : SegmentValue) → IsLegal s → round_trip (tree_rows s.rows) < period_fs s.head.frame_ns }
     ensures step { (s : SegmentValue) → IsLegal s → pos 1 ≤ℤ step_of s.head }
     ensures start { (s : SegmentValue) → IsLegal s → ahead_ns s.head (counts_of s.rows) < 2000000000 }
 {}
 
-/// Of `loss_run` + 1 drift frames in a row one is not lost, and none is lost whose number is not 1 to
-/// 100,000.
+/// Of `loss_run` + 1 drift frames in a row one is not listed as lost, and none is listed whose number is not
+/// 1 to 100,000.
 pub fn frames_come()
     ensures run { (s : SegmentValue) → IsLegal s → (first : ℕ)
         → (number : ℕ) × (first ≤ number) × (number ≤ first + s.head.loss_run) × (is_lost s.losses number ≡ false) }
@@ -65,7 +65,7 @@ pub fn frames_come()
         → loss_at s.losses phase number ≡ None }
 {}
 
-/// A run has at most 100,000 frames, with three tries of each exchange, and at most 200,000 edges.
+/// The frames of a run, with three tries of each exchange, are at most 100,000, and its edges at most 200,000.
 pub fn runs_are_short()
     ensures frames { (s : SegmentValue) → IsLegal s → most_frames s.head (counts_of s.rows) ≤ 100000 }
     ensures edges { (s : SegmentValue) → IsLegal s → s.head.cycles * signals s.rows ≤ 200000 }

@@ -121,7 +121,7 @@ impl Segment {
         &self.rows
     }
 
-    /// The frames that are lost, in the order of the file.
+    /// The frames that are listed as lost, in the order of the file.
     pub fn losses(&self) -> &[LossRow]
         ensures is { result.now ≡ self.now.losses }
         ensures legal { IsLegal self.now }
@@ -190,7 +190,7 @@ impl Segment {
         self.tree.position(self.reference)
     }
 
-    /// How many slaves the frame of this number in this phase reaches, where it is lost; None where it is not.
+    /// How many slaves the frame of this number and kind reaches, where it is listed as lost; None where it is not.
     pub fn loss(&self, phase: Phase, number: u32) -> Option<u16>
         ensures { result ≡ loss_at self.now.losses phase number }
     {

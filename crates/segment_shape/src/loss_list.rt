@@ -9,7 +9,7 @@ use std::marker::Model;
 /// The greatest number of a frame that can be listed as lost.
 const LAST_NUMBER: u32 = 100_000;
 
-/// The frames that are lost, in the order of the file, and by phase and number.
+/// The frames that are listed as lost, in the order of the file, and by kind and number.
 #[derive(Debug, Drop)]
 pub struct LossList {
     rows: Vec<LossRow>,
@@ -64,7 +64,7 @@ impl LossList {
         Ok(())
     }
 
-    /// Whether the frame of this number in this phase is lost.
+    /// Whether the frame of this number and kind is listed.
     pub fn lists(&self, phase: Phase, number: u32) -> bool
         ensures { result ≡ is_listed phase number self.now }
     {
@@ -84,7 +84,7 @@ impl LossList {
         &self.rows
     }
 
-    /// How many slaves the frame of this number in this phase reaches, where it is lost; None where it is not.
+    /// How many slaves the frame of this number and kind reaches, where it is listed; None where it is not.
     pub fn after(&self, phase: Phase, number: u32) -> Option<u16>
         ensures { result ≡ loss_at self.now phase number }
     {

@@ -8,16 +8,16 @@ use crate::loss_list::LossList;
 use crate::value_at::number_at;
 use serde_json::Value;
 
-/// A part of a run in which frames are numbered on their own.
+/// The kinds of frames, each of which is numbered on its own.
 #[derive(Clone, Copy, Debug, PartialEq, Eq)]
 pub enum Phase {
-    /// From the first frame until the drift frames.
+    /// Frames whose first datagram is no FRMW.
     Commission,
-    /// The drift frames.
+    /// Frames whose first datagram is a FRMW: those that compensate the drift.
     Drift,
 }
 
-/// A frame that is lost.
+/// A frame that is listed as lost.
 #[derive(Clone, Copy, Debug, PartialEq, Eq)]
 pub struct LossRow {
     pub phase: Phase,

@@ -27,9 +27,9 @@ pub struct ShapeRow {
     /// No other row of a [`crate::Shape`] has it.
     pub id: Id,
     pub kind: ClockKind,
-    /// Of a frame on its way out, through the processing unit: 1 to 10,000.
+    /// From port 0 through the processing unit to the first port out, 1 to 10,000.
     pub tp_ns: u16,
-    /// Of a frame on its way back, past the processing unit: 1 to 10,000.
+    /// Of every later forwarding, 1 to 10,000.
     pub tf_ns: u16,
     /// Of the cable to the parent, for the root to the master: 0 to 100,000,000.
     pub cable_ps: u32,

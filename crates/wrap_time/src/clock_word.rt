@@ -44,7 +44,7 @@ pub trait ClockWord: Copy {
         ensures is { result ≡ word_difference WIDTH (number self) (number other) }
         ensures near { (u v : ℕ) → AreNear WIDTH u v → number self ≡ u % 2 ^ WIDTH → number other ≡ v % 2 ^ WIDTH → result ≡ pos u -ℤ pos v };
 
-    /// The low 32 bits, which is what a receive time has.
+    /// The low 32 bits, which is what the receive time of a port has.
     fn low(self) -> T32
         ensures { result ≡ number self % 2 ^ 32 };
 

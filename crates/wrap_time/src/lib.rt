@@ -1,6 +1,6 @@
 //! Times that wrap, as the distributed clocks of EtherCAT have them (ETG.1000.4, the attributes of
 //! distributed clocks): a slave's clock counts nanoseconds in 64 bits, or in 32 where it is a small
-//! one, and the receive times of a datagram are the low 32 bits in both.
+//! one, and the receive times of the ports are the low 32 bits in both.
 //!
 //! A [`ClockWord`] is a time of either width, [`T32`] or [`T64`]. Two of them have no order, since
 //! either may have wrapped; they have a signed difference, which is that of the times behind them
