@@ -3,10 +3,10 @@
 //!
 //! A frame enters a slave at port 0, passes the processing unit, goes out and comes back at each of
 //! the ports 3, 1 and 2 that is connected, and leaves by port 0 (ESC data sheet, Section I, frame
-//! processing order). How long a slave keeps it is this project's rule: tP to the first port out, and tF
+//! processing order). How long a slave takes to pass it on is this project's rule: tP to the first port out, and tF
 //! at every later forwarding. [`Tree::new`] takes the rows of a
 //! segment in any order and refuses what is no tree, by the first fault and its row. A [`Tree`] then
-//! answers the frame order, and in fs when a frame arrives, how long a slave keeps it, and when it
+//! answers the frame order, and in fs when a frame arrives, how long it stays in a subtree, and when it
 //! comes back into a port.
 //!
 //! Contracts see a tree as the list of its rows, and every answer is a definition over that list:

@@ -11,7 +11,7 @@ use Rattle.dc_bounds.specs.Weight.{measuring_parent}
 use Rattle.dc_bounds.specs.Measurable.{is_measurable}
 use Rattle.dc_delay.specs.Latched.{latched}
 
--- at the connected ports of a slave L is within g fs of how long the frame was away, and so is each difference of two
+-- at the connected ports of a slave L is within g fs of the lap, and so is each difference of two
 pub record AreLatched (rows : List Row) (g r : ℕ) (laps : ℕ → Port → ℕ) : Type 0 where
   pub each : (p : Port) (j : ℕ) → child rows r p ≡ Some j → IsNear (1000000 * laps r p) (lap rows r p) g
   pub pairs : (p q : Port) (j k : ℕ) → child rows r p ≡ Some j → child rows r q ≡ Some k

@@ -16,7 +16,7 @@ pub struct Latch {
 }
 
 impl Latch {
-    // How long the frame was away before it came back into a port, as far as 32 bits tell.
+    // From the frame's arrival until it came back into a port, as far as 32 bits tell.
     pub(crate) fn lap(&self, port: Port) -> u64
         ensures is { result ≡ lap_of (Some self.now) port }
         ensures few { result < 2 ^ 32 }

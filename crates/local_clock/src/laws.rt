@@ -76,7 +76,7 @@ pub fn history()
 {}
 
 /// What a clock of w bits shows is the cut of its local time without wrap, and all else of it is the same.
-/// That time has the laws of `history`, and rises by 9 to 11 ns at every tick.
+/// That time goes on in turn as a clock does, and rises by 9 to 11 ns at every tick.
 pub fn local_time_is_cut()
     ensures clock { (w t : ℕ) → (c : Clock) → (events : List Happening) → clock_at w c events t ≡ cut_to w (whole_clock_at c events t) }
     ensures reading { (w t : ℕ) → (c : Clock) → (events : List Happening) → reading_at w c events t ≡ local_time c events t % 2 ^ w }

@@ -1,6 +1,6 @@
 //! The local clock of a slave: it counts 10 ns at every tick of the slave's oscillator, and takes 9 or
 //! 11 ns at every g-th tick for as long as a received difference is not worked off. This step rule, and
-//! that a reset drops what is left, are this project's own; a controller has a loop filter in their place.
+//! that a reset drops what is left, are this project's own.
 //!
 //! A [`LocalClock`] stands at a true time, in fs, and shows a local time, in ns. [`LocalClock::advance`]
 //! takes all ticks of an interval at once, by a division, and [`LocalClock::first_reaching`] finds the
