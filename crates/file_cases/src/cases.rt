@@ -3,14 +3,14 @@ use std::alloc::{AllocError, Global};
 
 /// The file that cases speak of.
 #[derive(Drop)]
-pub struct Cases {
+pub(crate) struct Cases {
     file: String,
     /// Whether it is read by `read_segment`, not by `read_shape` alone.
     is_segment: bool,
 }
 
 impl Cases {
-    pub fn new(alloc: Global) -> Cases {
+    pub(crate) fn new(alloc: Global) -> Cases {
         Cases {
             file: String::new(alloc),
             is_segment: false,
@@ -18,7 +18,7 @@ impl Cases {
     }
 
     /// The answer to a case.
-    pub fn answer(&mut self, alloc: Global, line: &str) -> Result<String, AllocError> {
+    pub(crate) fn answer(&mut self, alloc: Global, line: &str) -> Result<String, AllocError> {
         let (word, rest) = line.split_once(' ').unwrap_or((line, ""));
         if word == "shape" || word == "segment" {
             self.is_segment = word == "segment";

@@ -3,7 +3,7 @@ use segment_shape::ShapeError;
 use std::alloc::{AllocError, Global};
 
 /// A refusal of a shape, as the program writes it.
-pub fn shape_told(alloc: Global, error: &ShapeError) -> Result<String, AllocError> {
+pub(crate) fn shape_told(alloc: Global, error: &ShapeError) -> Result<String, AllocError> {
     match error {
         ShapeError::BadText => String::from_str(alloc, "not JSON"),
         ShapeError::Shape(path) => format!(in alloc; "shape {path}"),
@@ -13,7 +13,7 @@ pub fn shape_told(alloc: Global, error: &ShapeError) -> Result<String, AllocErro
 }
 
 /// A refusal of a segment.
-pub fn segment_told(alloc: Global, error: &SegError) -> Result<String, AllocError> {
+pub(crate) fn segment_told(alloc: Global, error: &SegError) -> Result<String, AllocError> {
     match error {
         SegError::BadText => String::from_str(alloc, "not JSON"),
         SegError::Shape(path) => format!(in alloc; "shape {path}"),

@@ -5,7 +5,7 @@ use segment_file::{Phase, Segment, SlaveRow, clock_flags, measuring_flags, read_
 use std::alloc::{AllocError, Global};
 
 /// Whether the file is legal.
-pub fn answer(alloc: Global, file: &str) -> Result<String, AllocError> {
+pub(crate) fn answer(alloc: Global, file: &str) -> Result<String, AllocError> {
     match read_segment(alloc, file.as_bytes()) {
         Ok(_segment) => String::from_str(alloc, "ok"),
         Err(error) => segment_told(alloc, &error),
@@ -13,7 +13,12 @@ pub fn answer(alloc: Global, file: &str) -> Result<String, AllocError> {
 }
 
 /// What the segment of the file has.
-pub fn told(alloc: Global, file: &str, word: &str, rest: &str) -> Result<String, AllocError> {
+pub(crate) fn told(
+    alloc: Global,
+    file: &str,
+    word: &str,
+    rest: &str,
+) -> Result<String, AllocError> {
     match read_segment(alloc, file.as_bytes()) {
         Ok(segment) => segment_says(alloc, &segment, word, rest),
         Err(error) => segment_told(alloc, &error),

@@ -5,7 +5,7 @@ use segment_shape::{Head, LossRow, Parent, Phase, Shape, ShapeRow, read_shape};
 use std::alloc::{AllocError, Global};
 
 /// Whether the file has a shape.
-pub fn answer(alloc: Global, file: &str) -> Result<String, AllocError> {
+pub(crate) fn answer(alloc: Global, file: &str) -> Result<String, AllocError> {
     match read_shape(alloc, file.as_bytes()) {
         Ok(_shape) => String::from_str(alloc, "ok"),
         Err(error) => shape_told(alloc, &error),
@@ -13,7 +13,12 @@ pub fn answer(alloc: Global, file: &str) -> Result<String, AllocError> {
 }
 
 /// What the file says.
-pub fn told(alloc: Global, file: &str, word: &str, rest: &str) -> Result<String, AllocError> {
+pub(crate) fn told(
+    alloc: Global,
+    file: &str,
+    word: &str,
+    rest: &str,
+) -> Result<String, AllocError> {
     match read_shape(alloc, file.as_bytes()) {
         Ok(shape) => shape_says(alloc, &shape, word, rest),
         Err(error) => shape_told(alloc, &error),
@@ -68,7 +73,7 @@ fn row_told(alloc: Global, row: &ShapeRow) -> Result<String, AllocError> {
     format!(in alloc; "{place} {parent} {ticks} {rates} {signals}")
 }
 
-pub fn kind_name(kind: ClockKind) -> &'static str {
+pub(crate) fn kind_name(kind: ClockKind) -> &'static str {
     match kind {
         ClockKind::None => "none",
         ClockKind::R32 => "r32",
@@ -84,7 +89,7 @@ fn parent_told(alloc: Global, parent: Option<Parent>) -> Result<String, AllocErr
     }
 }
 
-pub fn rates_told(alloc: Global, rates: &[RateRow]) -> Result<String, AllocError> {
+pub(crate) fn rates_told(alloc: Global, rates: &[RateRow]) -> Result<String, AllocError> {
     let mut told = String::from_str(alloc, "[")?;
     for rate in rates {
         told = format!(in alloc; "{told} {}:{}", rate.tick, rate.period_fs)?;
@@ -92,7 +97,7 @@ pub fn rates_told(alloc: Global, rates: &[RateRow]) -> Result<String, AllocError
     format!(in alloc; "{told} ]")
 }
 
-pub fn signals_told(
+pub(crate) fn signals_told(
     alloc: Global,
     shift_ns: u32,
     sync1_ns: Option<u32>,
@@ -103,7 +108,7 @@ pub fn signals_told(
     }
 }
 
-pub fn losses_told(alloc: Global, losses: &[LossRow]) -> Result<String, AllocError> {
+pub(crate) fn losses_told(alloc: Global, losses: &[LossRow]) -> Result<String, AllocError> {
     let mut told = String::from_str(alloc, "[")?;
     for loss in losses {
         let phase = phase_name(loss.phase);
