@@ -11,12 +11,7 @@ use Rattle.local_clock.specs.StepRule.{steered, elapsed}
 use Rattle.local_clock.specs.Reading.{Clock, Event, Happening, received, reset, after_event, advanced, clock_at, reading_at, steering_of, ticks_to, AreUntil, AreInOrder}
 use Rattle.local_clock.specs.LocalTime.{whole_advanced, whole_clock_at, local_time, cut_to}
 use Rattle.local_clock.proofs.ManyTicks.{steered_splits, elapsed_splits, ticks_on, speed_least, speed_most}
-use Rattle.local_clock.proofs.History.{is_until, is_after, event_instant, event_osc}
-
--- an event moves no hand
-event_reading : (e : Event) (c : Clock) → (after_event e c).reading ≡ c.reading
-event_reading (received d) c = refl
-event_reading (reset g) c = refl
+use Rattle.local_clock.proofs.History.{is_until, is_after, event_instant, event_osc, event_reading}
 
 event_cut : (w : ℕ) (e : Event) (c : Clock) → after_event e (cut_to w c) ≡ cut_to w (after_event e c)
 event_cut w (received d) c = refl
