@@ -3,6 +3,7 @@
 ghost use Rattle.std.specs.Prelude.{◌≡◌, ℕ, suc, ◌+◌, ◌-◌, ◌*◌, ◌/◌, ◌%◌, ◌^◌, ◌<◌, ◌≤◌, ◌+ℤ◌, pos, ℤ, List, [], ◌∷◌, ◌++◌, min, nat_lt, unsigned_abs};
 ghost use Rattle.std.specs.List.{All};
 ghost use Rattle.wrap_time.specs.NearNumbers.{AreNear};
+ghost use Rattle.wrap_time.specs.WordLess.{word_less};
 ghost use Rattle.osc_clock.specs.Ticks.{Oscillator, IsRunning, ticks};
 ghost use Rattle.local_clock.specs.StepRule.{Steering, next, step, steered, elapsed};
 ghost use Rattle.local_clock.specs.WorkedOff.{IsSteady, IsTowardZero};
@@ -98,9 +99,9 @@ pub fn local_time_is_cut()
 pub fn words_of_local_time()
     ensures apart { (w s t : ℕ) → (c : Clock) → (events : List Happening) → local_time c events s ≤ local_time c events t
         → local_time c events t < local_time c events s + 2 ^ w
-        → (reading_at w c events t + (2 ^ w - reading_at w c events s)) % 2 ^ w ≡ local_time c events t - local_time c events s }
+        → word_less w (reading_at w c events t) (reading_at w c events s) ≡ local_time c events t - local_time c events s }
     ensures offset { (w n s t : ℕ) → (c : Clock) → (events : List Happening) → local_time c events s ≤ local_time c events t
-        → (reading_at w c events t + (n + (2 ^ w - reading_at w c events s)) % 2 ^ w) % 2 ^ w
+        → (reading_at w c events t + word_less w n (reading_at w c events s)) % 2 ^ w
         ≡ (n + (local_time c events t - local_time c events s)) % 2 ^ w }
 {}
 
