@@ -1,3 +1,4 @@
+use crate::latch_input::stamps;
 use crate::oscillators::{instants, ticks};
 use crate::station::actions;
 use crate::words::rest;
@@ -11,6 +12,7 @@ pub(crate) fn answer(alloc: Global, line: &str) -> anyhow::Result<String> {
         Some("ticks") => ticks(alloc, &words),
         Some("instants") => instants(alloc, &words),
         Some("clock") => clock(alloc, &words),
+        Some("latch") => latch(alloc, &words),
         _ => Ok(String::from_str(alloc, line)?),
     }
 }
@@ -19,6 +21,14 @@ fn clock(alloc: Global, words: &[&str]) -> anyhow::Result<String> {
     match words {
         [width, words @ ..] if *width == "32" => actions::<T32>(alloc, words),
         [_, words @ ..] => actions::<T64>(alloc, words),
+        [] => Ok(String::new(alloc)),
+    }
+}
+
+fn latch(alloc: Global, words: &[&str]) -> anyhow::Result<String> {
+    match words {
+        [width, words @ ..] if *width == "32" => stamps::<T32>(alloc, words),
+        [_, words @ ..] => stamps::<T64>(alloc, words),
         [] => Ok(String::new(alloc)),
     }
 }
