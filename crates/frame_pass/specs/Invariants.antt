@@ -1,0 +1,38 @@
+-- What holds of a segment all the time.
+use Rattle.std.specs.Prelude.{◌≡◌, ℕ, ◌≤◌, List, [], ◌∷◌, length, Option, IfSome}
+use Rattle.std.specs.List.{AllByRecursion}
+use Rattle.ecat_frame.specs.FrameGrammar.{FrameValue}
+use Rattle.frame_pass.specs.SlaveState.{Visits, Timing, Slave}
+use Rattle.frame_pass.specs.SegmentState.{SegmentState, segment_step}
+
+-- the slave's present time, where it has one, is not past a time
+abbrev pub StandsBy : ℕ → Option Timing → Type 0
+StandsBy limit timing = IfSome timing (λ m. m.clock.instant ≤ limit)
+
+-- a frame visits the slave within the round trip
+pub record IsWithin (round_trip : ℕ) (v : Visits) : Type 0 where
+  pub arrive : v.arrive ≤ round_trip
+  pub back3 : IfSome v.back3 (λ at. at ≤ round_trip)
+  pub back1 : IfSome v.back1 (λ at. at ≤ round_trip)
+  pub back2 : IfSome v.back2 (λ at. at ≤ round_trip)
+
+-- The slave has 4096 bytes of registers, and its present time is not past a time.
+pub record IsSound (round_trip limit : ℕ) (s : Slave) : Type 0 where
+  pub size : length s.registers.bytes ≡ 4096
+  pub time : StandsBy limit s.timing
+  pub visits : IsWithin round_trip s.visits
+
+-- No slave's present time is past the time before which no frame leaves.
+abbrev pub IsTimely : SegmentState → Type 0
+IsTimely s = AllByRecursion (IsSound s.round_trip s.free) s.slaves
+
+-- the segment after these frames, each sent after the same wait
+unfoldable pub after_frames : ℕ → List FrameValue → SegmentState → SegmentState
+after_frames wait_ns [] s = s
+after_frames wait_ns (f ∷ fs) s = after_frames wait_ns fs (segment_step s wait_ns f).0
+
+-- nothing was sent, and nothing given to finish
+pub record IsUnsent (s : SegmentState) : Type 0 where
+  pub sent : s.sent ≡ 0
+  pub last : s.last ≡ 0
+  pub free : s.free ≡ 0
