@@ -57,8 +57,10 @@ begins k cycles row s e is start run = by k refl
   where
     P : Timing → Type 0
     P m = HasHistory (width s.registers.kind) m.clock [] s × IsRunning m.clock.osc × (m.clock.instant ≡ 0)
+
     with_clock : (t : Timing) → s.timing ≡ Some t → t.clock.reading ≡ row.start → IsRunning t.clock.osc → t.clock.instant ≡ 0 → IfSome s.timing P
     with_clock t is_t reading runs first = some_is P s.timing t is_t (of_start (width s.registers.kind) s t is_t refl (rw (reading, is) (fits k row.start start)), runs, first)
+
     by : (j : ClockKind) → k ≡ j → IfSome s.timing P
     by kind.None j = none_is P s.timing (e ∙ ap (λ x. timing_by x cycles row) j)
     by kind.R32 j = with_clock (timing_of 0 row) (e ∙ ap (λ x. timing_by x cycles row) j) refl (run (ap measures j)) refl
