@@ -1,4 +1,4 @@
-ghost use Rattle.std.specs.Prelude.{◌≡◌, ◌≤◌, ◌++◌, ◌∷◌, [], IfOk, OnOk, length};
+ghost use Rattle.std.specs.Prelude.{◌≡◌, ◌≤◌, ◌++◌, ◌∷◌, [], IfOk, OnErr, OnOk, length};
 ghost use Rattle.segment_shape.specs.Losses.{is_listed, loss_at};
 ghost use Rattle.segment_shape.specs.LossTable.{place_of};
 
@@ -52,10 +52,11 @@ impl LossList {
         })
     }
 
-    /// Puts a loss at the end.
+    /// Puts a loss at the end. Want of memory alone refuses it.
     pub fn push(&mut self, row: LossRow) -> Result<(), AllocError>
         requires { (1 ≤ row.number) × (row.number ≤ 100000) }
         ensures ok { OnOk result (self.new ≡ self.old ++ row ∷ []) }
+        ensures err { OnErr result (self.new ≡ self.old) }
     {
         let known = self.after(row.phase, row.number);
         self.rows.push(row)?;
