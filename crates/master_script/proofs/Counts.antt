@@ -1,8 +1,9 @@
 -- The numbers of sendings and of losses are those of the list.
-use Rattle.std.proofs.Common.{◌≡◌, ℕ, ◌+◌, Bool, true, false, cond, ◌==◌, List, [], ◌∷◌, length, Option, Some, None, Result, Ok, Err, fold, add-zero, refl, sym, ap, ◌∙◌, arith}
+use Rattle.std.proofs.Common.{◌≡◌, ℕ, ◌+◌, Bool, true, false, cond, ◌==◌, List, [], ◌∷◌, length, Option, Some, None, is_none, Result, Ok, Err, fold, add-zero, refl, sym, ap, ◌∙◌, arith}
 use Rattle.std.proofs.lemmas.List.{nil_from_length}
+use Rattle.std.proofs.lemmas.List.Sums.{sum_by-cons}
 use Rattle.ecat_frame.specs.FrameGrammar.{FrameValue}
-use Rattle.ecat_link.specs.Exchanges.{Exchange}
+use Rattle.ecat_link.specs.Exchanges.{Exchange, lost_among}
 use Rattle.master_script.specs.Config.{ConfigValue, settle_frames}
 use Rattle.master_script.specs.Judged.{judged}
 use Rattle.master_script.specs.Kept.{Kept, kept_after, StandsFor}
@@ -88,6 +89,28 @@ fold_sent cfg p (e ∷ es) = let a = (after_counts cfg p e).0 in let b = fold_se
 pub progress_sent : (cfg : ConfigValue) (es : List Exchange) → (progress cfg es).sent ≡ length es
 unfolding progress
 progress_sent cfg es = let h = fold_sent cfg (beginning cfg) es in omega (arith, h)
+
+lost_counted : (back : Option FrameValue) → lost_one back ≡ cond (is_none back) 1 0
+lost_counted None = refl
+lost_counted (Some f) = refl
+
+fold_lost : (cfg : ConfigValue) (p : Progress) (es : List Exchange) → (fold (after cfg) p es).lost ≡ p.lost + lost_among es
+fold_lost cfg p [] = sym (add-zero p.lost)
+fold_lost cfg p (e ∷ es) =
+    let a = (after_counts cfg p e).1 in
+    let b = fold_lost cfg (after cfg p e) es in
+    let c = lost_counted e.back in
+    let d = sum_by-cons (λ (x : Exchange). cond (is_none x.back) 1 0) e es in
+    omega (arith, a, b, c, d)
+
+pub progress_lost : (cfg : ConfigValue) (es : List Exchange) → (progress cfg es).lost ≡ lost_among es
+unfolding progress
+progress_lost cfg es = let h = fold_lost cfg (beginning cfg) es in omega (arith, h)
+
+-- what is kept of it
+pub kept_counts : (cfg : ConfigValue) (frames : Option ℕ) (es : List Exchange) → ((kept_after cfg frames es).sent ≡ length es) × ((kept_after cfg frames es).lost ≡ lost_among es)
+unfolding kept_after
+kept_counts cfg frames es = (progress_sent cfg es, progress_lost cfg es)
 
 -- a fresh master has sent nothing, and so stands for the empty list alone
 pub fresh_pins : (m : Kept) (frames : Option ℕ) (es : List Exchange) → StandsFor frames m es → m.sent ≡ 0 → es ≡ []

@@ -6,3 +6,8 @@ pub mod Asks
 pub mod Drifts
 pub mod Ends
 pub mod Limits
+pub mod Todo
+pub mod Within
+pub mod Grammar
+pub mod Wants
+pub mod Replies

@@ -1,20 +1,23 @@
 -- How much a script sends at most: 9 (n + 1) in commissioning, K + m + 1 in settling, 3 n in arming, and the run frames.
-use Rattle.std.proofs.Common.{◌≡◌, ℕ, ◌+◌, ◌*◌, ◌<◌, ◌≤◌, Bool, true, false, cond, eqb, ltb, ◌==◌, List, [], ◌∷◌, ◌++◌, length, map, filter, Option, Some, None, Result, Ok, Err, refl, sym, ap, subst, arith}
+use Rattle.std.proofs.Common.{◌≡◌, ℕ, zero, suc, ◌+◌, ◌*◌, ◌<◌, ◌≤◌, Bool, true, false, cond, eqb, ltb, ◌==◌, List, [], ◌∷◌, ◌++◌, length, map, filter, append_assoc, IsSome, Option, Some, None, Result, Ok, Err, refl, sym, ap, subst, arith}
 use Rattle.std.proofs.lemmas.Bool.Decides.{nat_tests}
-use Rattle.std.proofs.lemmas.List.{length-map, length-append}
+use Rattle.std.proofs.lemmas.List.{append-nil, length-map, length-append}
 use Rattle.std.proofs.lemmas.List.Sums.{length-filter, count_by-le-length}
 use Rattle.std.proofs.lemmas.List.FromFn.{length-range_with_len}
 use Rattle.ecat_frame.specs.FrameGrammar.{FrameValue}
-use Rattle.ecat_link.specs.Exchanges.{Exchange}
+use Rattle.ecat_link.specs.Exchanges.{Exchange, StepOf}
 use Rattle.dc_bounds.specs.Weight.{flag}
 use Rattle.dc_delay.specs.ShapeRows.{positions}
 use Rattle.master_script.specs.Config.{ConfigValue, settle_frames}
 use Rattle.master_script.specs.Judged.{judged}
 use Rattle.master_script.specs.Slaves.{SlaveWords, is_measuring, is_clock, measuring, clocks, judgement}
-use Rattle.master_script.specs.Steps.{learned, identified, expected}
+use Rattle.master_script.specs.Scripted.{AreScripted, none, more, IsLimited}
+use Rattle.master_script.specs.Steps.{expected}
 use Rattle.master_script.specs.Words.{Words}
-use Rattle.ecat_link.specs.Serves.{Send, End}
-use Rattle.master_script.specs.Script.{script, Call, Commission, Settle as CallSettle, Arm as CallArm, Run, asks_next, drifts_next, next_in, next_by}
+use Rattle.ecat_link.specs.Drive.{drive, exchange_of}
+use Rattle.ecat_link.specs.Serves.{Next, Send, End, Sends}
+use Rattle.master_script.specs.Script.{Answer, script, Call, Commission, Settle as CallSettle, Arm as CallArm, Run, asks_next, drifts_next, next_in, next_by}
+use Rattle.master_script.proofs.Todo.{identifies, one_identify, all_identify, later_few, later_none, arm_few, learned_slaves, learned_reference}
 use Rattle.master_script.proofs.Folds.{progress_push}
 use Rattle.master_script.proofs.Counts.{after_ran, progress_sent}
 use Rattle.master_script.specs.Progress.{Phase, Commissioning, Settling, Arming, Running, Progress, progress, beginning, run_one, later_steps, arm_steps, after, asked, answered, noted, done, planned, missed, lost_at, counted, moved, settling, settled_by, timed, brought, running}
@@ -22,75 +25,6 @@ use Rattle.master_script.specs.declared.step.Refusal.{Refusal}
 use Rattle.master_script.specs.declared.step.Refusal.TheVariants.{Lost}
 use Rattle.master_script.specs.declared.step.Step.{Step}
 use Rattle.master_script.specs.declared.step.Step.TheVariants.{Count, Identify, Rate, Latch, Times, Set, Settle, Drift, Arm}
-
-marked_few : (flags : ℕ → Bool) (n : ℕ) → length (filter flags (positions n)) ≤ n
-marked_few flags n =
-    let a = length-filter flags (positions n) in let b = count_by-le-length flags (positions n) in let c = length-range_with_len 0 n in omega (arith, a, b, c)
-
--- how often Identify is still asked
-abbrev pub one_identify : Step → ℕ
-one_identify Count = 0
-one_identify (Identify p) = 1
-one_identify Rate = 0
-one_identify Latch = 0
-one_identify (Times p) = 0
-one_identify (Set p) = 0
-one_identify Settle = 0
-one_identify (Drift k) = 0
-one_identify (Arm p) = 0
-
-abbrev pub identifies : List Step → ℕ
-identifies [] = 0
-identifies (step ∷ rest) = one_identify step + identifies rest
-
-none_times : (ps : List ℕ) (rest : List Step) → identifies (map Times ps ++ rest) ≡ identifies rest
-none_times [] rest = refl
-none_times (p ∷ ps) rest = let a = none_times ps rest in omega (arith, a)
-
-none_set : (ps : List ℕ) → identifies (map Set ps) ≡ 0
-none_set [] = refl
-none_set (p ∷ ps) = let a = none_set ps in omega (arith, a)
-
-all_identify : (ps : List ℕ) → identifies (map Identify ps) ≡ length ps
-all_identify [] = refl
-all_identify (p ∷ ps) = let a = all_identify ps in omega (arith, a)
-
-later_few : (ss : List SlaveWords) → length (later_steps ss) ≤ 2 + 2 * length ss
-later_few ss =
-    let a = marked_few (flag (map is_measuring ss)) (length ss) in
-    let b = marked_few (flag (map is_clock ss)) (length ss) in
-    let c = length-append (map Times (measuring ss)) (map Set (clocks ss)) in
-    let d = length-map (measuring ss) Times in
-    let e = length-map (clocks ss) Set in
-    omega (arith, a, b, c, d, e)
-
-later_none : (ss : List SlaveWords) → identifies (later_steps ss) ≡ 0
-later_none ss = let a = none_times (measuring ss) (map Set (clocks ss)) in let b = none_set (clocks ss) in omega (arith, a, b)
-
-arm_few : (ss : List SlaveWords) → length (arm_steps ss) ≤ length ss
-arm_few ss = let b = marked_few (flag (map is_clock ss)) (length ss) in let e = length-map (clocks ss) Arm in omega (arith, b, e)
-
-learned_slaves : (n : ℕ) (step : Step) (f : FrameValue) (w : Words) → length (learned n step f w).slaves ≡ length w.slaves + one_identify step
-learned_slaves n Count f w = omega arith
-learned_slaves n (Identify p) f w = let a = length-append w.slaves (identified f ∷ []) in omega (arith, a)
-learned_slaves n Rate f w = omega arith
-learned_slaves n Latch f w = omega arith
-learned_slaves n (Times p) f w = omega arith
-learned_slaves n (Set p) f w = omega arith
-learned_slaves n Settle f w = omega arith
-learned_slaves n (Drift k) f w = omega arith
-learned_slaves n (Arm p) f w = omega arith
-
-learned_reference : (n : ℕ) (step : Step) (f : FrameValue) (w : Words) → (learned n step f w).reference ≡ w.reference
-learned_reference n Count f w = refl
-learned_reference n (Identify p) f w = refl
-learned_reference n Rate f w = refl
-learned_reference n Latch f w = refl
-learned_reference n (Times p) f w = refl
-learned_reference n (Set p) f w = refl
-learned_reference n Settle f w = refl
-learned_reference n (Drift k) f w = refl
-learned_reference n (Arm p) f w = refl
 
 -- what the slaves' judgement still adds
 abbrev pub ahead : ℕ → Option ℕ → ℕ
@@ -173,8 +107,8 @@ answered_fresh cfg n settles q step [] f None some e s t w =
     let r = ap (λ x. ahead n x) (learned_reference q.sent step f q.words) in
     subst (λ x. BoundBy n settles (done p x p.words.reference) (done p x p.words.reference).refused (done p x p.words.reference).phase) (sym s)
     (done_bound cfg n settles p p.words.reference some e s refl w.drifts (omega (arith, g, k, i)) (omega (arith, a, b, l, r)))
-answered_fresh cfg n settles q step (next ∷ more) f None some e s t w =
-    let p = noted q step (next ∷ more) f in
+answered_fresh cfg n settles q step (next ∷ others) f None some e s t w =
+    let p = noted q step (next ∷ others) f in
     let a = ap (λ x. length x) t in let i = ap (λ x. identifies x) t in let b = w.sent in let l = w.tries in let k = w.kinds in
     let g = learned_slaves q.sent step f q.words in
     let r = ap (λ x. ahead n x) (learned_reference q.sent step f q.words) in
@@ -189,8 +123,8 @@ answered_arm cfg n settles q step [] f None e s t w =
     let a = ap (λ x. length x) t in let b = w.sent in let l = w.tries in
     subst (λ x. BoundBy n settles (done p x p.words.reference) (done p x p.words.reference).refused (done p x p.words.reference).phase) (sym s)
     (subst (λ x. BoundBy n settles (done p Arming p.words.reference) x Running) (sym e) (omega (arith, a, b, l)))
-answered_arm cfg n settles q step (next ∷ more) f None e s t w =
-    let p = noted q step (next ∷ more) f in
+answered_arm cfg n settles q step (next ∷ others) f None e s t w =
+    let p = noted q step (next ∷ others) f in
     let a = ap (λ x. length x) t in let b = w.sent in let l = w.tries in
     subst (λ x. BoundBy n settles p x p.phase) (sym e) (subst (λ x. BoundBy n settles p None x) (sym s)
     (record { tries = omega arith; sent = omega (arith, a, b, l); least = omega arith }))
@@ -287,18 +221,6 @@ pub after_bound : (cfg : ConfigValue) (n frames : ℕ) (p : Progress) (e : Excha
 unfolding after
 after_bound cfg n frames p e w h = moved_bound cfg n frames p e.sent e.back p.refused p.phase refl refl w h
 
--- the calls that are made: `run` is given at most so many frames
-abbrev pub IsLimited : ℕ → Call → Type 0
-IsLimited frames Commission = Unit {0}
-IsLimited frames CallSettle = Unit {0}
-IsLimited frames CallArm = Unit {0}
-IsLimited frames (Run k) = k ≤ frames
-
--- exchanges of which each was wanted by some call
-pub data Made : ConfigValue → ℕ → List Exchange → Type 0 where
-  nothing : (cfg : ConfigValue) (frames : ℕ) → Made cfg frames []
-  more : (cfg : ConfigValue) (frames : ℕ) (es : List Exchange) (e : Exchange) (call : Call) → IsLimited frames call → Made cfg frames es → script cfg call es ≡ Send e.wait_ns e.sent → Made cfg frames (es ++ e ∷ [])
-
 module _ (cfg : ConfigValue) (frames : ℕ) (p : Progress) (wait_ns : ℕ) (sent : FrameValue) where
   asks_some : (todo : List Step) → asks_next cfg p todo ≡ Send wait_ns sent → (step : Step) × (rest : List Step) × (todo ≡ step ∷ rest)
   asks_some [] h = absurd cc
@@ -334,19 +256,19 @@ record Bounded (cfg : ConfigValue) (frames : ℕ) (p : Progress) : Type 0 where
   bound : BoundBy (length cfg.kinds) (settle_frames cfg) p p.refused p.phase
   ran : p.ran ≤ frames
 
-start_bounded : (cfg : ConfigValue) (frames : ℕ) → Bounded cfg frames (beginning cfg)
-start_bounded cfg frames =
+beginning_bounded : (cfg : ConfigValue) (frames : ℕ) → Bounded cfg frames (beginning cfg)
+beginning_bounded cfg frames =
     let a = all_identify (positions (length cfg.kinds)) in
     let b = length-map (positions (length cfg.kinds)) Identify in
     let c = length-range_with_len 0 (length cfg.kinds) in
     record { bound = record { tries = omega arith; kinds = omega (arith, a, c); sent = omega (arith, b, c); drifts = refl }; ran = omega arith }
 
-made_bounded : (cfg : ConfigValue) (frames : ℕ) (es : List Exchange) → Made cfg frames es → Bounded cfg frames (progress cfg es)
+scripted_bounded : (cfg : ConfigValue) (frames : ℕ) (es : List Exchange) → AreScripted cfg frames es → Bounded cfg frames (progress cfg es)
 unfolding progress script
-made_bounded cfg frames es (nothing cfg' frames') = start_bounded cfg frames
-made_bounded cfg frames es (more cfg' frames' before e call l made h) =
+scripted_bounded cfg frames es none = beginning_bounded cfg frames
+scripted_bounded cfg frames es (more before e call rest l h) =
     let p = progress cfg before in
-    let now = made_bounded cfg frames before made in
+    let now = scripted_bounded cfg frames before rest in
     let w = wanted cfg frames p e.wait_ns e.sent call p.refused l h in
     let r = after_ran cfg p e in
     let q : Bounded cfg frames (after cfg p e) = record { bound = after_bound cfg (length cfg.kinds) frames p e w now.bound; ran = let a = ran_less frames p p.refused p.phase refl w now.ran in omega (arith, a, r) } in
@@ -360,9 +282,42 @@ sent_few n settles frames p None Arming a b l h = let c = h.sent in let d = h.le
 sent_few n settles frames p None Running a b l h = omega (arith, l, h)
 
 -- a script sends at most 9 (n + 1) + K + m + 1 + 3 n frames, and the run frames
-pub sends_few : (cfg : ConfigValue) (frames : ℕ) (es : List Exchange) → 0 < length cfg.kinds → Made cfg frames es → length es ≤ 9 + 12 * length cfg.kinds + settle_frames cfg + frames
+pub sends_few : (cfg : ConfigValue) (frames : ℕ) (es : List Exchange) → 0 < length cfg.kinds → AreScripted cfg frames es → length es ≤ 9 + 12 * length cfg.kinds + settle_frames cfg + frames
 sends_few cfg frames es some made =
-    let b = made_bounded cfg frames es made in
+    let b = scripted_bounded cfg frames es made in
     let s = progress_sent cfg es in
     let f = sent_few (length cfg.kinds) (settle_frames cfg) frames (progress cfg es) (progress cfg es).refused (progress cfg es).phase some (omega arith) b.ran b.bound in
     omega (arith, s, f)
+
+-- with the greatest configuration
+pub sends_most : (cfg : ConfigValue) (frames : ℕ) (es : List Exchange) → 0 < length cfg.kinds → length cfg.kinds ≤ 256 → cfg.lock_in ≤ 100000 → cfg.loss_run ≤ 15 → AreScripted cfg frames es → length es ≤ 103097 + frames
+sends_most cfg frames es some n k m made = let f = sends_few cfg frames es some made in omega (arith, n, k, m, f)
+
+-- the exchanges of one call behind others
+pub calls_scripted : (cfg : ConfigValue) (frames : ℕ) (call : Call) (before es : List Exchange) → IsLimited frames call → AreScripted cfg frames before → Sends (script cfg call) before es → AreScripted cfg frames (before ++ es)
+calls_scripted cfg frames call before [] l a s = subst (λ x. AreScripted cfg frames x) (sym (append-nil before)) a
+calls_scripted cfg frames call before (e ∷ es) l a s =
+    subst (λ x. AreScripted cfg frames x) (append_assoc before (e ∷ []) es)
+    (calls_scripted cfg frames call (before ++ e ∷ []) es l (more before e call a l s.0) s.1)
+
+module _ {S : Type 0} (step : StepOf S) (cfg : ConfigValue) (frames : ℕ) (call : Call) where
+  -- with a turn more than can be sent, the run of a call ends
+  pub call_ends : (turns : ℕ) (before : List Exchange) (s : S) → 0 < length cfg.kinds → IsLimited frames call → AreScripted cfg frames before
+      → 9 + 12 * length cfg.kinds + settle_frames cfg + frames < length before + turns → IsSome (drive step (script cfg call) turns before s)
+  unfolding drive
+  call_ends zero before s some l a h = let f = sends_few cfg frames before some a in absurd (omega (arith, f, h))
+  call_ends (suc turns) before s some l a h =
+      by_next (script cfg call before) refl
+      (λ wait_ns frame w.
+      let e = exchange_of step s wait_ns frame in
+      let longer = length-append before (e ∷ []) in
+      call_ends turns (before ++ e ∷ []) (step s wait_ns frame).0 some l (more before e call a l w) (omega (arith, h, longer)))
+    where
+      by_next : (n : Next Answer) → script cfg call before ≡ n
+          → ((wait_ns : ℕ) (frame : FrameValue) → script cfg call before ≡ Send wait_ns frame → IsSome (drive step (script cfg call) turns (before ++ exchange_of step s wait_ns frame ∷ []) (step s wait_ns frame).0))
+          → IsSome (elim n [
+            | End answer ↦ Some (record { exchanges = before; state = s; answer = answer })
+            | Send wait_ns frame ↦ drive step (script cfg call) turns (before ++ exchange_of step s wait_ns frame ∷ []) (step s wait_ns frame).0
+          ])
+      by_next (End answer) e go = refl
+      by_next (Send wait_ns frame) e go = go wait_ns frame e

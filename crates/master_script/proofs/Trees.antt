@@ -42,5 +42,19 @@ walked (suc n) ss k (place ∷ free) hung e pass =
     subst (λ j. Told ss (hung ++ place ∷ []) (walk (places k (slice_index ss k) ++ free) (suc k) (drop j ss))) s
     (walked n ss (suc k) (places k (slice_index ss k) ++ free) (hung ++ place ∷ []) (omega (arith, e)) (one_more ss k place free hung pass (omega (arith, e)) b))))
 
-pub tree_told : (ss : List ℕ) → Told ss [] (tree_of ss)
-tree_told ss = walked (length ss) ss 0 (None ∷ []) [] (omega arith) (before_all ss)
+tree_walked : (ss : List ℕ) → Told ss [] (tree_of ss)
+tree_walked ss = walked (length ss) ss 0 (None ∷ []) [] (omega arith) (before_all ss)
+
+told_ok : (ss : List ℕ) (r : Result (List Place) TopologyError) (hung : List Place) → Told ss [] r → r ≡ Ok hung → Lists ss hung
+told_ok ss (Ok found) hung t e = let s : found ≡ hung = cc in subst (λ h. Lists ss h) s t
+told_ok ss (Err e) hung t r = absurd cc
+
+told_err : (ss : List ℕ) (r : Result (List Place) TopologyError) (e : TopologyError) → Told ss [] r → r ≡ Err e → IsRefused ss e
+told_err ss (Ok found) e t r = absurd cc
+told_err ss (Err f) e t r = let s : f ≡ e = cc in subst (λ h. IsRefused ss h) s t
+
+pub tree_listed : (ss : List ℕ) (hung : List Place) → tree_of ss ≡ Ok hung → Lists ss hung
+tree_listed ss hung e = told_ok ss (tree_of ss) hung (tree_walked ss) e
+
+pub tree_refused : (ss : List ℕ) (e : TopologyError) → tree_of ss ≡ Err e → IsRefused ss e
+tree_refused ss e r = told_err ss (tree_of ss) e (tree_walked ss) r

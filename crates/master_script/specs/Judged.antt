@@ -1,5 +1,5 @@
 -- How a reply is judged, the same for every step: Reply first, and Counter only where Reply does not come.
-use Rattle.std.specs.Prelude.{ℕ, ◌==◌, if◌then◌else◌, List, [], ◌∷◌, map, Option, Some, None}
+use Rattle.std.specs.Prelude.{◌≡◌, ◌≢◌, ℕ, ◌==◌, if◌then◌else◌, List, [], ◌∷◌, map, take, Option, Some, None, slice_get}
 use Rattle.ecat_frame.specs.Difference.{first_difference}
 use Rattle.ecat_frame.specs.FrameGrammar.{DatagramValue, FrameValue}
 use Rattle.master_script.specs.declared.step.Refusal.{Refusal}
@@ -9,6 +9,14 @@ use Rattle.master_script.specs.declared.step.Step.{Step}
 -- the working counters of a frame
 abbrev pub counters : FrameValue → List ℕ
 counters f = map (λ (d : DatagramValue). d.wkc) f.datagrams
+
+-- these are the numbers at the first place where the counters are not the expected ones
+pub record IsFirstMiscount (expected counters : List ℕ) (e k : ℕ) : Type 0 where
+  pub place : ℕ
+  pub expects : slice_get expected place ≡ Some e
+  pub counts : slice_get counters place ≡ Some k
+  pub differ : e ≢ k
+  pub before : take place expected ≡ take place counters
 
 -- the first counter that is not the expected one, with both numbers
 abbrev pub miscounted : Step → List ℕ → List ℕ → Option Refusal

@@ -9,3 +9,4 @@ pub mod Steps
 pub mod Progress
 pub mod Script
 pub mod Kept
+pub mod Scripted

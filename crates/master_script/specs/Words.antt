@@ -1,5 +1,5 @@
 -- What a master has learned, and what follows from it for the clocks.
-use Rattle.std.specs.Prelude.{ℕ, ◌+◌, ◌*◌, Bool, List, [], length, map, Option, Some, None, Result, Ok, Err, slice_index_or}
+use Rattle.std.specs.Prelude.{ℕ, ◌+◌, ◌*◌, Bool, List, [], length, map, Option, Some, None, Result, Ok, Err, slice_index_or, unwrap_or}
 use Rattle.dc_topology.specs.Listed.{Place}
 use Rattle.dc_topology.specs.declared.error.TopologyError.{TopologyError}
 use Rattle.dc_bounds.specs.Weight.{flag}
@@ -26,14 +26,9 @@ pub record Words : Type 0 where
 abbrev pub wide_at : Words → ℕ → Bool
 wide_at w p = is_wide (slice_index_or w.slaves p (record { features = 0; status = 0; fourth = 0 }))
 
--- a number that is known by the time it is used
-abbrev pub or_0 : Option ℕ → ℕ
-or_0 None = 0
-or_0 (Some n) = n
-
--- the position of the reference
+-- the position of the reference; it is known by the time that it is used, and so are the numbers below
 abbrev pub reference_of : Words → ℕ
-reference_of w = or_0 w.reference
+reference_of w = unwrap_or w.reference 0
 
 abbrev pub hung_or_none : Result (List Place) TopologyError → List Place
 hung_or_none (Ok hung) = hung
@@ -51,7 +46,7 @@ delays_of cfg w =
 
 -- the measured delay at a position
 abbrev pub delay_at : ConfigValue → Words → ℕ → ℕ
-delay_at cfg w p = or_0 (slice_index_or (delays_of cfg w) p None)
+delay_at cfg w p = unwrap_or (slice_index_or (delays_of cfg w) p None) 0
 
 abbrev pub unit_of : Option Latch → ℕ
 unit_of None = 0
@@ -63,4 +58,4 @@ offset_at cfg w p = offset (8 * width (wide_at w p)) cfg.epoch_ns (delay_at cfg 
 
 -- the start time of the SYNC units
 abbrev pub start_at : ConfigValue → Words → ℕ
-start_at cfg w = start_of cfg (length (clocks w.slaves)) (or_0 w.time)
+start_at cfg w = start_of cfg (length (clocks w.slaves)) (unwrap_or w.time 0)
