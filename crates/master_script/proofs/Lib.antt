@@ -1,0 +1,13 @@
+pub mod Folds
+pub mod Pins
+pub mod Counts
+pub mod Trees
+pub mod Asks
+pub mod Drifts
+pub mod Ends
+pub mod Limits
+pub mod Todo
+pub mod Within
+pub mod Grammar
+pub mod Wants
+pub mod Replies

@@ -1,0 +1,12 @@
+pub mod Config
+pub mod Frames
+pub mod Judged
+pub mod ListedTree
+pub mod Slaves
+pub mod Offset
+pub mod Words
+pub mod Steps
+pub mod Progress
+pub mod Script
+pub mod Kept
+pub mod Scripted

@@ -1,0 +1,116 @@
+//! Laws over the definitions alone, for proofs of the layers above. That exchanges follow the script is a
+//! matter of claims that depend on values, which no law can take: there the lemmas of `proofs/Asks.antt`,
+//! `proofs/Drifts.antt` and `proofs/Ends.antt` are what a layer above cites.
+
+ghost use Rattle.std.specs.Prelude.{◌≡◌, ◌≢◌, ◌↔◌, ℕ, ◌+◌, ◌*◌, ◌<◌, ◌≤◌, List, [], ◌++◌, length, Option, Some, None, Ok, Err, IsSome, slice_get};
+ghost use Rattle.dc_topology.specs.Listed.{Lists, Place};
+ghost use Rattle.dc_topology.specs.Refusals.{IsRefused};
+ghost use Rattle.dc_topology.specs.declared.error.TopologyError.{TopologyError};
+ghost use Rattle.ecat_frame.specs.Built.{built, size_of};
+ghost use Rattle.ecat_frame.specs.Difference.{first_difference};
+ghost use Rattle.ecat_frame.specs.FrameGrammar.{DatagramValue, FrameValue, IsFrame};
+ghost use Rattle.ecat_frame.specs.declared.command.Command.TheVariants.{Frmw};
+ghost use Rattle.ecat_link.specs.Drive.{drive};
+ghost use Rattle.ecat_link.specs.Exchanges.{Exchange, StepOf, lost_among};
+ghost use Rattle.ecat_link.specs.Serves.{Send, Sends};
+ghost use Rattle.master_script.specs.Config.{ConfigValue, settle_frames, slaves};
+ghost use Rattle.master_script.specs.Frames.{drift_datagram};
+ghost use Rattle.master_script.specs.Judged.{IsFirstMiscount, counters, judged};
+ghost use Rattle.master_script.specs.Kept.{Kept, StandsFor, kept_after, resting};
+ghost use Rattle.master_script.specs.ListedTree.{tree_of};
+ghost use Rattle.master_script.specs.Progress.{Arming, Running, Settling, arm_steps, progress};
+ghost use Rattle.master_script.specs.Script.{Call, Commission, script};
+ghost use Rattle.master_script.specs.Scripted.{AreScripted, IsLimited};
+ghost use Rattle.master_script.specs.Steps.{datagrams_of, frame_of};
+ghost use Rattle.master_script.specs.Words.{Words, reference_of};
+ghost use Rattle.master_script.specs.declared.step.Refusal.TheVariants.{Counter, Reply};
+ghost use Rattle.master_script.specs.declared.step.Stage.TheVariants.{Armed, Commissioned, Settled};
+ghost use Rattle.master_script.specs.declared.step.Step.{Step};
+
+/// What a master keeps between two calls tells how far the script has come, whatever the exchanges were: no
+/// two lists of exchanges that are kept alike go on differently. A master that has sent nothing stands for
+/// no exchanges.
+pub fn kept_tells_progress()
+    ensures fresh { (m : Kept) (frames : Option ℕ) (es : List Exchange) → StandsFor frames m es → m.sent ≡ 0 → es ≡ [] }
+    ensures commissioned { (m : Kept) (es : List Exchange) → StandsFor None m es → m.stage ≡ Commissioned
+        → progress m.config es ≡ resting m Settling [] }
+    ensures settled { (m : Kept) (es : List Exchange) → StandsFor None m es → m.stage ≡ Settled → m.drifts ≡ settle_frames m.config
+        → progress m.config es ≡ resting m Arming (arm_steps m.words.slaves) }
+    ensures armed { (m : Kept) (es : List Exchange) → StandsFor None m es → m.stage ≡ Armed
+        → progress m.config es ≡ resting m Running [] }
+{}
+
+/// The numbers of sendings and of losses that are kept are those of the exchanges.
+pub fn counts_are_of_the_exchanges()
+    ensures sent { (cfg : ConfigValue) (frames : Option ℕ) (es : List Exchange) → (kept_after cfg frames es).sent ≡ length es }
+    ensures lost { (cfg : ConfigValue) (frames : Option ℕ) (es : List Exchange) → (kept_after cfg frames es).lost ≡ lost_among es }
+{}
+
+/// The exchanges of calls, one after another, are scripted.
+pub fn calls_are_scripted()
+    ensures none { (cfg : ConfigValue) (frames : ℕ) → AreScripted cfg frames [] }
+    ensures then { (cfg : ConfigValue) (frames : ℕ) (call : Call) (before es : List Exchange) → AreScripted cfg frames before
+        → IsLimited frames call → Sends (script cfg call) before es → AreScripted cfg frames (before ++ es) }
+{}
+
+/// All calls together send at most 9 (n + 1) frames in commissioning, K + m + 1 in settling, 3 n in arming
+/// and those of `run`: with the greatest configuration 103,097 and those of `run`.
+pub fn sendings_are_few()
+    ensures few { (cfg : ConfigValue) (frames : ℕ) (es : List Exchange) → 0 < slaves cfg → AreScripted cfg frames es
+        → length es ≤ 9 + 12 * slaves cfg + settle_frames cfg + frames }
+    ensures greatest { (cfg : ConfigValue) (frames : ℕ) (es : List Exchange) → 0 < slaves cfg → slaves cfg ≤ 256
+        → cfg.lock_in ≤ 100000 → cfg.loss_run ≤ 15 → AreScripted cfg frames es → length es ≤ 103097 + frames }
+{}
+
+/// Every call ends, whatever comes back: its run has an ending in any more turns than that.
+pub fn calls_end<S>()
+    ensures { (step : StepOf S) (cfg : ConfigValue) (frames : ℕ) (call : Call) (turns : ℕ) (before : List Exchange) (s : S)
+        → 0 < slaves cfg → IsLimited frames call → AreScripted cfg frames before
+        → 9 + 12 * slaves cfg + settle_frames cfg + frames < length before + turns
+        → IsSome (drive step (script cfg call) turns before s) }
+{}
+
+/// The frame of each step has a datagram or more, and without padding at most 98 bytes, so a builder has
+/// room for it. Each frame that the script wants is one of a step, one period after the one before, and
+/// is of the grammar.
+pub fn frames_are_of_the_grammar()
+    ensures some { (cfg : ConfigValue) (w : Words) (step : Step) → 0 < length (datagrams_of cfg w step) }
+    ensures fits { (cfg : ConfigValue) (w : Words) (step : Step) → 16 + size_of (datagrams_of cfg w step) ≤ 98 }
+    ensures built { (cfg : ConfigValue) (w : Words) (step : Step) → frame_of cfg w step ≡ built (datagrams_of cfg w step) }
+    ensures of_step { (cfg : ConfigValue) (call : Call) (es : List Exchange) (wait_ns : ℕ) (frame : FrameValue) → 0 < slaves cfg
+        → script cfg call es ≡ Send wait_ns frame → (step : Step) × (frame ≡ frame_of cfg (progress cfg es).words step) }
+    ensures wait { (cfg : ConfigValue) (call : Call) (es : List Exchange) (wait_ns : ℕ) (frame : FrameValue) → 0 < slaves cfg
+        → script cfg call es ≡ Send wait_ns frame → wait_ns ≡ cfg.frame_ns }
+    ensures valid { (cfg : ConfigValue) (call : Call) (es : List Exchange) (wait_ns : ℕ) (frame : FrameValue) → 0 < slaves cfg
+        → slaves cfg ≤ 256 → script cfg call es ≡ Send wait_ns frame → IsFrame frame }
+{}
+
+/// Every frame after commissioning is a drift frame: its first datagram is that of Drift, to the reference.
+/// No frame of commissioning is one.
+pub fn drift_frames_follow_commissioning()
+    ensures commission { (cfg : ConfigValue) (es : List Exchange) (wait_ns : ℕ) (frame : FrameValue) → 0 < slaves cfg
+        → script cfg Commission es ≡ Send wait_ns frame
+        → (first : DatagramValue) × (slice_get frame.datagrams 0 ≡ Some first) × (first.head.command ≢ Frmw) }
+    ensures drift { (cfg : ConfigValue) (call : Call) (es : List Exchange) (wait_ns : ℕ) (frame : FrameValue) → 0 < slaves cfg
+        → call ≢ Commission → script cfg call es ≡ Send wait_ns frame
+        → slice_get frame.datagrams 0 ≡ Some (drift_datagram (reference_of (progress cfg es).words)) }
+{}
+
+/// `Reply` comes exactly where the reply differs from what was sent in a byte that may not, and names the
+/// first such byte. `Counter` comes only where there is none, and names the first counter that is not the
+/// expected one. A reply that is accepted has neither.
+pub fn replies_are_judged()
+    ensures reply { (step : Step) (expected : List ℕ) (sent reply : FrameValue) (at : ℕ)
+        → (judged step expected sent reply ≡ Some (Reply step at)) ↔ (first_difference sent reply ≡ Some at) }
+    ensures counter { (step named : Step) (expected : List ℕ) (sent reply : FrameValue) (e k : ℕ)
+        → judged step expected sent reply ≡ Some (Counter named e k)
+        → (first_difference sent reply ≡ None) × IsFirstMiscount expected (counters reply) e k }
+    ensures accepted { (step : Step) (expected : List ℕ) (sent reply : FrameValue) → length expected ≡ length reply.datagrams
+        → judged step expected sent reply ≡ None → (first_difference sent reply ≡ None) × (counters reply ≡ expected) }
+{}
+
+/// The tree of statuses is the one that they list, and its refusal is theirs.
+pub fn trees_are_listed()
+    ensures ok { (statuses : List ℕ) (hung : List Place) → tree_of statuses ≡ Ok hung → Lists statuses hung }
+    ensures refused { (statuses : List ℕ) (e : TopologyError) → tree_of statuses ≡ Err e → IsRefused statuses e }
+{}
