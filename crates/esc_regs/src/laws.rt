@@ -27,7 +27,7 @@ pub fn store_leaves_length()
     ensures { (n at x : ℕ) (bytes : List ℕ) → at + n ≤ length bytes → length (with_number n at x bytes) ≡ length bytes }
 {}
 
-/// A number of n bytes is below 256^n, so are all numbers in whole registers.
+/// A number of n bytes is below 256^n: so is each that stands in whole registers.
 pub fn numbers_fit()
     ensures { (n at : ℕ) (bytes : List ℕ) → AreBytes bytes → number_at n at bytes < 256 ^ n }
 {}
