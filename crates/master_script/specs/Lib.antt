@@ -10,3 +10,5 @@ pub mod Progress
 pub mod Script
 pub mod Kept
 pub mod Scripted
+pub mod StaysKept
+pub mod Stages
