@@ -7,8 +7,8 @@ use Rattle.ecat_link.specs.Serves.{Send, Serves}
 use Rattle.ecat_link.proofs.Serving.{serves_one, serves_then}
 use Rattle.master_script.specs.Config.{ConfigValue}
 use Rattle.master_script.specs.Judged.{judged}
-use Rattle.master_script.specs.Progress.{Phase, Commissioning, Settling, Arming, Running, Progress, progress, after, asked_by, lost_at, lost_one, drift_one, answered}
-use Rattle.master_script.specs.Script.{script, Call, Commission, Settle as CallSettle, Arm as CallArm, Run}
+use Rattle.master_script.specs.Progress.{Phase, Commissioning, Arming, Progress, progress, after, asked_by, lost_at, lost_one, drift_one, answered}
+use Rattle.master_script.specs.Script.{script, Call, Commission, Arm as CallArm}
 use Rattle.master_script.specs.Steps.{frame_of, expected}
 use Rattle.master_script.specs.Words.{Words}
 use Rattle.master_script.specs.declared.step.Refusal.{Refusal}
@@ -49,8 +49,8 @@ asking s n w step rest k = record {
 }
 
 -- the step came back and was judged
-abbrev pub past : ConfigValue → Phase → Sent → Words → Step → List Step → ℕ → FrameValue → Option Refusal → Progress
-past cfg s n w step rest k f o = answered (record (asking s n w step rest k) { refused = None }) step rest f o
+abbrev pub past : Phase → Sent → Words → Step → List Step → ℕ → FrameValue → Option Refusal → Progress
+past s n w step rest k f o = answered (record (asking s n w step rest k) { refused = None }) step rest f o
 
 sends_step : (cfg : ConfigValue) (call : Call) (s : Phase) (es : List Exchange) (n : Sent) (w : Words) (step : Step) (rest : List Step) (k : ℕ) → AsksIn call s → k < 3
     → progress cfg es ≡ asking s n w step rest k → script cfg call es ≡ Send cfg.frame_ns (frame_of cfg w step)
@@ -87,13 +87,13 @@ module _ {S : Type 0} (step_of : StepOf S) (cfg : ConfigValue) (call : Call) (s 
       → o ≡ judged step (expected cfg w step f) sent f
       → Serves step_of (script cfg call) P a t (At k n)
       → Follows step_of t u (record { wait_ns = wait_ns; sent = sent; back = Some f })
-      → Serves step_of (script cfg call) P a u (λ es. progress cfg es ≡ past cfg s (one_more s (Some f) n) w step rest k f o)
+      → Serves step_of (script cfg call) P a u (λ es. progress cfg es ≡ past s (one_more s (Some f) n) w step rest k f o)
   ask_came a t u wait_ns sent f k o asks h v x j p g =
-      let Q : List Exchange → Type 0 = λ es. progress cfg es ≡ past cfg s (one_more s (Some f) n) w step rest k f o in
+      let Q : List Exchange → Type 0 = λ es. progress cfg es ≡ past s (one_more s (Some f) n) w step rest k f o in
       serves_then step_of (script cfg call) P (At k n) Q a t u p
       (serves_one step_of (script cfg call) (At k n) Q t u (record { wait_ns = wait_ns; sent = sent; back = Some f }) g
       (λ es at. (
         sends_step cfg call s es n w step rest k asks h at ∙ rw (v, x) refl,
         step_more cfg call s es (record { wait_ns = wait_ns; sent = sent; back = Some f }) n w step rest k asks h at
-            ∙ ap (λ r. past cfg s (one_more s (Some f) n) w step rest k f r) (sym j),
+            ∙ ap (λ r. past s (one_more s (Some f) n) w step rest k f r) (sym j),
       )))

@@ -1,5 +1,5 @@
 -- What is known before the slaves are judged and after it, and that exchanges only add to it.
-use Rattle.std.proofs.Common.{◌≡◌, ◌≢◌, ℕ, zero, suc, ◌+◌, ◌<◌, ◌≤◌, Bool, true, false, cond, ◌==◌, ◌||◌, List, [], ◌∷◌, ◌++◌, length, map, filter, replicate, slice_index_or, slice_set, IsSome, Option, Some, None, Result, Ok, Err, fold, refl, sym, ap, subst, ◌∙◌, arith}
+use Rattle.std.proofs.Common.{◌≡◌, ◌≢◌, ℕ, zero, suc, ◌+◌, ◌<◌, ◌≤◌, Bool, true, false, cond, ◌==◌, List, [], ◌∷◌, ◌++◌, length, map, filter, replicate, slice_index_or, slice_set, IsSome, Option, Some, None, Result, Ok, Err, fold, refl, sym, ap, subst, ◌∙◌, arith}
 use Rattle.std.specs.List.{list_any, range_with_len}
 use Rattle.std.proofs.lemmas.List.{append-nil, append_assoc, get_or-set_other, length-append}
 use Rattle.std.proofs.lemmas.List.FromFn.{length-range_with_len}
@@ -11,14 +11,14 @@ use Rattle.dc_delay.specs.ShapeRows.{positions}
 use Rattle.master_script.specs.Config.{ConfigValue, settle_frames}
 use Rattle.master_script.specs.Judged.{judged}
 use Rattle.master_script.specs.Kept.{is_times}
-use Rattle.master_script.specs.Progress.{Phase, Commissioning, Settling, Arming, Running, Progress, progress, beginning, later_steps, arm_steps, after, asked, answered, noted, done, turned, planned, missed, counted, moved, settling, settled_by, timed, brought, running}
-use Rattle.master_script.specs.Slaves.{SlaveWords, is_measuring, is_clock, measuring, clocks, judgement}
+use Rattle.master_script.specs.Progress.{Phase, Commissioning, Settling, Arming, Running, Progress, progress, beginning, later_steps, after, asked, answered, noted, done, turned, planned, missed, counted, moved, settling, settled_by, timed, brought, running}
+use Rattle.master_script.specs.Slaves.{SlaveWords, is_measuring, measuring, clocks, judgement}
 use Rattle.master_script.specs.Steps.{learned, expected, identified, latch_in}
 use Rattle.master_script.specs.Words.{Words, wide_at}
 use Rattle.master_script.specs.declared.step.Refusal.{Refusal}
 use Rattle.master_script.specs.declared.step.Step.{Step}
 use Rattle.master_script.specs.declared.step.Step.TheVariants.{Count, Identify, Rate, Latch as LatchStep, Times, Set, Settle, Drift, Arm}
-use Rattle.master_script.proofs.Todo.{identifies, one_identify, later_none, arm_none, all_identify}
+use Rattle.master_script.proofs.Todo.{identifies, later_none, arm_none, all_identify}
 
 -- the steps before the judgement
 abbrev pub IsFirst : Step → Type 0

@@ -14,3 +14,4 @@ pub mod Replies
 pub mod Known
 pub mod Staying
 pub mod Stages
+pub mod Worked

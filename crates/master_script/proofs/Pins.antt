@@ -13,7 +13,7 @@ use Rattle.master_script.specs.Words.{Words}
 use Rattle.master_script.specs.declared.step.Refusal.{Refusal}
 use Rattle.master_script.specs.declared.step.Step.{Step}
 use Rattle.master_script.specs.declared.step.Stage.{Stage}
-use Rattle.master_script.specs.declared.step.Stage.TheVariants.{Fresh, Commissioned, Settled, Armed, Ended, Spent}
+use Rattle.master_script.specs.declared.step.Stage.TheVariants.{Fresh, Commissioned, Settled, Armed, Ended}
 
 -- what holds of a place that exchanges lead to, by its refusal and stage
 abbrev pub SoundBy : ConfigValue → Progress → Option Refusal → Phase → Type 0

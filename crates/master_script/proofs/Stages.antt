@@ -1,5 +1,5 @@
 -- What a stage says of the rest that is kept.
-use Rattle.std.proofs.Common.{◌≡◌, ◌≢◌, ◌↔◌, ◌⊎◌, inl, inr, ℕ, ◌+◌, ◌<◌, ◌≤◌, Bool, true, false, cond, eqb, ltb, not, ◌==◌, ◌&&◌, List, [], ◌∷◌, length, map, is_some, IsSome, Option, Some, None, refl, sym, ap, subst, ◌∙◌, arith}
+use Rattle.std.proofs.Common.{◌≡◌, ◌≢◌, ◌↔◌, ℕ, ◌<◌, Bool, true, false, cond, ltb, ◌==◌, List, [], ◌∷◌, length, map, IsSome, Option, Some, None, refl, sym, ap, subst, ◌∙◌, arith}
 use Rattle.std.specs.List.{list_any}
 use Rattle.std.proofs.lemmas.Bool.Decides.{nat_tests}
 use Rattle.ecat_link.specs.Exchanges.{Exchange}
@@ -8,20 +8,19 @@ use Rattle.dc_delay.specs.Latched.{laps, measures}
 use Rattle.dc_delay.specs.ShapeRows.{rows_of}
 use Rattle.dc_delay.proofs.Listing.{listed}
 use Rattle.master_script.specs.Config.{ConfigValue, settle_frames}
-use Rattle.master_script.specs.Kept.{Kept, kept_after, kept_at, is_times, has_delays, start_shown, stage_by, stage_in, run_stage}
+use Rattle.master_script.specs.Kept.{kept_after, is_times, has_delays, stage_by, stage_in, run_stage}
 use Rattle.master_script.specs.Progress.{Phase, Commissioning, Settling, Arming, Running, Progress, progress}
 use Rattle.master_script.specs.Slaves.{is_clock}
 use Rattle.master_script.specs.Stages.{HasDrifts}
 use Rattle.master_script.specs.Words.{Words, delays_of, start_at, hung_of}
 use Rattle.master_script.specs.declared.step.Refusal.{Refusal}
-use Rattle.master_script.specs.declared.step.Stage.{Stage}
-use Rattle.master_script.specs.declared.step.Stage.TheVariants.{Fresh, Commissioned, Settled, Armed, Ended, Spent}
+use Rattle.master_script.specs.declared.step.Stage.TheVariants.{Fresh, Armed, Ended, Spent}
 use Rattle.master_script.specs.declared.step.Step.{Step}
-use Rattle.master_script.specs.declared.step.Step.TheVariants.{Count, Identify, Rate, Latch, Times, Set, Settle, Drift, Arm}
+use Rattle.master_script.specs.declared.step.Step.TheVariants.{Arm}
 use Rattle.master_script.proofs.Known.{KnownBy}
 use Rattle.master_script.proofs.Pins.{SoundBy}
 use Rattle.master_script.proofs.Staying.{Holds, progress_holds, to_ltb}
-use Rattle.master_script.proofs.Within.{IsOf, AreOf, hung_length}
+use Rattle.master_script.proofs.Within.{AreOf, hung_length}
 
 -- spent exactly where it was refused
 run_unspent : (frames : Option ℕ) (ran : ℕ) → run_stage frames ran ≢ Spent

@@ -1,21 +1,21 @@
 -- What a master keeps stays kept.
-use Rattle.std.proofs.Common.{◌≡◌, ◌≢◌, ℕ, ◌+◌, ◌<◌, ◌≤◌, Bool, true, false, cond, eqb, ltb, not, ◌==◌, ◌&&◌, List, [], ◌∷◌, ◌++◌, length, is_some, IsSome, Option, Some, None, Result, Ok, Err, fold, refl, sym, ap, subst, ◌∙◌, arith}
+use Rattle.std.proofs.Common.{◌≡◌, ◌≢◌, ℕ, ◌<◌, ◌≤◌, Bool, true, false, cond, ltb, not, ◌&&◌, List, [], ◌∷◌, ◌++◌, length, is_some, Option, Some, None, fold, refl, sym, subst, ◌∙◌, arith}
 use Rattle.std.specs.List.{list_any}
 use Rattle.std.proofs.lemmas.Bool.Decides.{nat_tests}
 use Rattle.ecat_frame.specs.FrameGrammar.{FrameValue}
 use Rattle.ecat_link.specs.Exchanges.{Exchange}
 use Rattle.master_script.specs.Config.{ConfigValue, settle_frames}
 use Rattle.master_script.specs.Judged.{judged}
-use Rattle.master_script.specs.Kept.{Kept, kept_after, kept_at, is_times, has_delays, start_shown}
-use Rattle.master_script.specs.Progress.{Phase, Commissioning, Settling, Arming, Running, Progress, progress, beginning, after, asked, answered, noted, done, turned, missed, counted, moved, running, lost_one, drift_one}
+use Rattle.master_script.specs.Kept.{kept_after, kept_at, is_times, start_shown}
+use Rattle.master_script.specs.Progress.{Phase, Commissioning, Settling, Arming, Running, Progress, progress, beginning, after, asked, answered, noted, done, turned, counted, moved, running}
 use Rattle.master_script.specs.StaysKept.{StaysKept}
 use Rattle.master_script.specs.Steps.{expected}
-use Rattle.master_script.specs.Words.{Words, delays_of, start_at, hung_of}
+use Rattle.master_script.specs.Words.{Words, delays_of, start_at}
 use Rattle.master_script.specs.declared.step.Refusal.{Refusal}
 use Rattle.master_script.specs.declared.step.Step.{Step}
-use Rattle.master_script.specs.declared.step.Step.TheVariants.{Count, Identify, Rate, Latch, Times, Set, Settle, Drift, Arm}
+use Rattle.master_script.specs.declared.step.Step.TheVariants.{Arm}
 use Rattle.master_script.proofs.Counts.{after_counts, after_drifts}
-use Rattle.master_script.proofs.Known.{Known, Moves, Adds, after_moves, moves_then, same_moves, progress_known}
+use Rattle.master_script.proofs.Known.{Known, Adds, after_moves, moves_then, same_moves, progress_known}
 use Rattle.master_script.proofs.Pins.{SoundBy, IsSound, after_sound, progress_sound}
 use Rattle.master_script.proofs.Within.{IsOf, AreOf, Within, after_within, progress_within}
 

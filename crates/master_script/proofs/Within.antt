@@ -1,5 +1,5 @@
 -- The positions that steps and words name are those of slaves, and each phase asks its own steps.
-use Rattle.std.proofs.Common.{◌≡◌, ℕ, zero, suc, ◌+◌, ◌<◌, ◌≤◌, Bool, true, false, cond, List, [], ◌∷◌, ◌++◌, length, map, filter, Option, Some, None, Result, Ok, Err, fold, unwrap_or, refl, sym, ap, subst, ◌∙◌, arith}
+use Rattle.std.proofs.Common.{◌≡◌, ℕ, zero, suc, ◌+◌, ◌<◌, ◌≤◌, Bool, true, false, cond, List, [], ◌∷◌, ◌++◌, length, map, filter, Option, Some, None, Result, Ok, Err, fold, unwrap_or, refl, sym, ap, subst, arith}
 use Rattle.std.specs.List.{find, range_with_len}
 use Rattle.std.proofs.lemmas.List.{length-map}
 use Rattle.std.proofs.lemmas.List.FromFn.{length-range_with_len}
@@ -12,17 +12,17 @@ use Rattle.dc_topology.specs.declared.error.TopologyError.TheVariants.{BadStatus
 use Rattle.dc_bounds.specs.Weight.{flag}
 use Rattle.dc_delay.specs.Refusals.{first_timed, first_unmeasurable}
 use Rattle.dc_delay.specs.ShapeRows.{positions}
-use Rattle.master_script.specs.Config.{ConfigValue, settle_frames}
+use Rattle.master_script.specs.Config.{ConfigValue}
 use Rattle.master_script.specs.Judged.{judged}
 use Rattle.master_script.specs.ListedTree.{walk, tree_of, behind}
-use Rattle.master_script.specs.Progress.{Phase, Commissioning, Settling, Arming, Running, Progress, progress, beginning, first_steps, later_steps, arm_steps, after, asked, answered, noted, done, turned, planned, counted, moved, settling, settled_by, timed, brought, running}
+use Rattle.master_script.specs.Progress.{Phase, Commissioning, Settling, Arming, Running, Progress, progress, beginning, later_steps, arm_steps, after, asked, answered, noted, done, turned, planned, counted, moved, settling, settled_by, timed, brought, running}
 use Rattle.master_script.specs.Slaves.{SlaveWords, is_measuring, is_clock, measuring, clocks, judgement, judged_tree, judged_clocks, tree_told}
-use Rattle.master_script.specs.Steps.{learned, expected}
-use Rattle.master_script.specs.Words.{Words, hung_or_none}
+use Rattle.master_script.specs.Steps.{expected}
+use Rattle.master_script.specs.Words.{hung_or_none}
 use Rattle.master_script.specs.declared.step.Refusal.{Refusal}
 use Rattle.master_script.specs.declared.step.Step.{Step}
 use Rattle.master_script.specs.declared.step.Step.TheVariants.{Count, Identify, Rate, Latch, Times, Set, Settle, Drift, Arm}
-use Rattle.master_script.proofs.Todo.{identifies, one_identify, later_none, arm_none, learned_slaves, learned_reference, all_identify}
+use Rattle.master_script.proofs.Todo.{identifies, later_none, arm_none, learned_slaves, learned_reference, all_identify}
 
 -- numbers below n
 abbrev pub Below : ℕ → List ℕ → Type 0

@@ -12,3 +12,4 @@ pub mod Kept
 pub mod Scripted
 pub mod StaysKept
 pub mod Stages
+pub mod Rows

@@ -1,5 +1,5 @@
 -- What a master keeps stays kept.
-use Rattle.std.specs.Prelude.{◌≡◌, ◌≢◌, ℕ, ◌<◌, ◌≤◌, List, [], ◌++◌, Option, Some, None, slice_index_or}
+use Rattle.std.specs.Prelude.{◌≡◌, ◌≢◌, ℕ, ◌<◌, ◌≤◌, List, [], ◌++◌, Some, None, slice_index_or}
 use Rattle.dc_delay.specs.declared.latch.Latch.{Latch}
 use Rattle.master_script.specs.Kept.{Kept}
 use Rattle.master_script.specs.Slaves.{SlaveWords}
