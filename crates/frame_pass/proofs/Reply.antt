@@ -18,7 +18,7 @@ use Rattle.frame_pass.specs.DatagramTable.{Doing, reads, merges}
 use Rattle.frame_pass.specs.DatagramAtSlave.{merged, data_with, payload_after, datagram_after, slave_after, doing}
 use Rattle.frame_pass.specs.FramePass.{datagrams_after, datagrams_passed, datagrams_behind, at_arrival}
 use Rattle.frame_pass.specs.Replies.{unanswered_datagram, unanswered}
-use Rattle.frame_pass.specs.Invariants.{IsSound, IsTimely}
+use Rattle.frame_pass.specs.Invariants.{IsSound, IsSoundSegment}
 use Rattle.frame_pass.specs.SegmentState.{SegmentState, segment_step, carried, carried_of, numbered, leaving, leaves_at, phase_of, number_of}
 use Rattle.frame_pass.proofs.Sizes.{HasSize, size_shown}
 use Rattle.frame_pass.proofs.Keeping.{kept_after}
@@ -94,7 +94,7 @@ same_behind part left (suc h) sent trip limit (s ∷ ss) ds low a =
     same_behind part left h sent trip limit ss (datagrams_passed sent s ds) low a.1 ∙ same_at part left sent trip limit s ds here
 
 -- a reply with Q, whatever the slaves do
-replied : (Q : FrameValue → Type 0) (s : SegmentState) (wait : ℕ) (f : FrameValue) → IsTimely s
+replied : (Q : FrameValue → Type 0) (s : SegmentState) (wait : ℕ) (f : FrameValue) → IsSoundSegment s
     → ((h sent trip limit : ℕ) (ss : List Slave) → sent + trip ≤ limit → AllByRecursion (IsSound trip limit) ss → Q (record f { datagrams = datagrams_behind h sent ss f.datagrams }))
     → IfSome (segment_step s wait f).1 Q
 unfolding segment_step
@@ -112,7 +112,7 @@ replied Q s wait f h has = by (nat_lt s.sent 1000000) refl
     by true e = rw e (from (phase_of f.datagrams) (loss_at (left (phase_of f.datagrams)).losses (phase_of f.datagrams) (number_of (phase_of f.datagrams) (left (phase_of f.datagrams)))))
     by false e = rw e tt
 
-pub same_reply : (s : SegmentState) (wait : ℕ) (f : FrameValue) → IsTimely s → IfSome (segment_step s wait f).1 (λ g. unanswered g ≡ unanswered f)
+pub same_reply : (s : SegmentState) (wait : ℕ) (f : FrameValue) → IsSoundSegment s → IfSome (segment_step s wait f).1 (λ g. unanswered g ≡ unanswered f)
 same_reply s wait f h =
     replied (λ g. unanswered g ≡ unanswered f) s wait f h
     (λ n sent trip limit ss low a. ap (λ ds. record f { datagrams = ds }) (same_behind unanswered_datagram same_unanswered n sent trip limit ss f.datagrams low a))
@@ -127,7 +127,7 @@ pub none_differs : (f g : FrameValue) → wiped g ≡ wiped f → first_differen
 unfolding first_difference
 none_differs f g e = rw e (none_apart (spelling (wiped f)))
 
-pub no_difference : (s : SegmentState) (wait : ℕ) (f : FrameValue) → IsTimely s → IfSome (segment_step s wait f).1 (λ g. first_difference f g ≡ None)
+pub no_difference : (s : SegmentState) (wait : ℕ) (f : FrameValue) → IsSoundSegment s → IfSome (segment_step s wait f).1 (λ g. first_difference f g ≡ None)
 no_difference s wait f h =
     replied (λ g. first_difference f g ≡ None) s wait f h
     (λ n sent trip limit ss low a. none_differs f _ (ap (λ ds. record (wiped f) { datagrams = ds }) (same_behind wiped_datagram same_wiped n sent trip limit ss f.datagrams low a)))

@@ -15,7 +15,7 @@ use Rattle.frame_pass.specs.Advancing.{advanced_to, measuring_at, ticked_to}
 use Rattle.frame_pass.specs.WriteEffects.{latched, compared, reset_by, activated, affected, wrote, arms}
 use Rattle.frame_pass.specs.FramePass.{port_latched, slaves_passed, end_of}
 use Rattle.frame_pass.specs.SegmentState.{SegmentState, segment_step, leaves_at, carried, carried_of, numbered, leaving, number_of, phase_of, finished}
-use Rattle.frame_pass.specs.Invariants.{IsSound, IsTimely}
+use Rattle.frame_pass.specs.Invariants.{IsSound, IsSoundSegment}
 use Rattle.frame_pass.proofs.Sizes.{HasSize, size_written, size_holding, size_stamped}
 use Rattle.frame_pass.proofs.Keeping.{Keeps, IsVisited, kept_by_all}
 
@@ -129,12 +129,12 @@ pub sound_all : (sent trip limit : ℕ) (end : Option ℕ) (h : ℕ) (ss : List 
 sound_all sent trip limit end h ss ds low a =
     kept_by_all (λ t. t ≤ limit) (IsSound trip limit) (keeps_sound trip limit) sent end (visited sent trip limit low) h ss ds a
 
-timely_carried : (o : Option ℕ) (s : SegmentState) (f : FrameValue) → s.last + s.round_trip ≤ s.free → IsTimely s → IsTimely (carried o s f).0
+timely_carried : (o : Option ℕ) (s : SegmentState) (f : FrameValue) → s.last + s.round_trip ≤ s.free → IsSoundSegment s → IsSoundSegment (carried o s f).0
 timely_carried None s f low h = sound_all s.last s.round_trip s.free (end_of (length s.slaves) s.slaves) (length s.slaves) s.slaves f.datagrams low h
 timely_carried (Some n) s f low h = sound_all s.last s.round_trip s.free (end_of n s.slaves) n s.slaves f.datagrams low h
 
 -- a frame that leaves at this time keeps the slaves before its return
-pub timely_leaving : (s : SegmentState) (at : ℕ) → s.free ≤ at → IsTimely s → IsTimely (leaving at s)
+pub timely_leaving : (s : SegmentState) (at : ℕ) → s.free ≤ at → IsSoundSegment s → IsSoundSegment (leaving at s)
 timely_leaving s at low h = later s.round_trip s.free (at + s.round_trip) s.slaves (omega (arith, low)) h
 
 -- a segment from which a frame left, before it goes through the slaves
@@ -149,7 +149,7 @@ pub left_by : (phase : Phase) (s : SegmentState) (at : ℕ) → IsLeft s at (num
 left_by Commission s at = record { slaves = refl; round_trip = refl; sent = refl; last = refl; free = refl }
 left_by Drift s at = record { slaves = refl; round_trip = refl; sent = refl; last = refl; free = refl }
 
-pub timely_numbered : (phase : Phase) (s : SegmentState) → IsTimely s → IsTimely (numbered phase s)
+pub timely_numbered : (phase : Phase) (s : SegmentState) → IsSoundSegment s → IsSoundSegment (numbered phase s)
 timely_numbered Commission s h = h
 timely_numbered Drift s h = h
 
@@ -157,17 +157,17 @@ pub returns_by : (phase : Phase) (s : SegmentState) (at : ℕ) → (numbered pha
 returns_by Commission s at = omega arith
 returns_by Drift s at = omega arith
 
-pub timely_carried_of : (phase : Phase) (s : SegmentState) (at : ℕ) (f : FrameValue) → s.free ≤ at → IsTimely s
-    → IsTimely (carried_of phase (numbered phase (leaving at s)) f).0
+pub timely_carried_of : (phase : Phase) (s : SegmentState) (at : ℕ) (f : FrameValue) → s.free ≤ at → IsSoundSegment s
+    → IsSoundSegment (carried_of phase (numbered phase (leaving at s)) f).0
 timely_carried_of phase s at f low h =
     let t = numbered phase (leaving at s) in
     timely_carried (loss_at t.losses phase (number_of phase t)) t f (returns_by phase s at) (timely_numbered phase (leaving at s) (timely_leaving s at low h))
 
-pub timely_step : (s : SegmentState) (wait : ℕ) (f : FrameValue) → IsTimely s → IsTimely (segment_step s wait f).0
+pub timely_step : (s : SegmentState) (wait : ℕ) (f : FrameValue) → IsSoundSegment s → IsSoundSegment (segment_step s wait f).0
 unfolding segment_step
 timely_step s wait f h = by (nat_lt s.sent 1000000) refl
   where
-    by : (b : Bool) → nat_lt s.sent 1000000 ≡ b → IsTimely (segment_step s wait f).0
+    by : (b : Bool) → nat_lt s.sent 1000000 ≡ b → IsSoundSegment (segment_step s wait f).0
     by true e = rw e (timely_carried_of (phase_of f.datagrams) s (leaves_at s wait) f (omega arith) h)
     by false e = rw e h
 
@@ -175,7 +175,7 @@ finished_all : (trip limit t : ℕ) (ss : List Slave) → t ≤ limit → AllByR
 finished_all trip limit t [] low a = a
 finished_all trip limit t (s ∷ ss) low a = (sound_at trip limit t s low a.0, finished_all trip limit t ss low a.1)
 
-pub timely_finished : (s : SegmentState) (t : ℕ) → IsTimely s → IsTimely (finished t s)
+pub timely_finished : (s : SegmentState) (t : ℕ) → IsSoundSegment s → IsSoundSegment (finished t s)
 unfolding finished
 timely_finished s t h =
     finished_all s.round_trip (max t s.free) t s.slaves (omega arith) (later s.round_trip s.free (max t s.free) s.slaves (omega arith) h)

@@ -20,7 +20,7 @@ asked s d = doing_by d.head.command (d.head.adp == 0) (d.head.adp == station s.r
 unfoldable pub doing : Slave → DatagramValue → Doing
 doing s d = if is_refused_by s d then Passes else asked s d
 
--- each byte with the bits of both
+-- each byte ORed with that of the other list
 unfoldable pub merged : List ℕ → List ℕ → List ℕ
 merged [] ys = []
 merged (x ∷ xs) [] = x ∷ xs

@@ -43,7 +43,7 @@ raises_adp Brw = true
 raises_adp Armw = true
 raises_adp _ = false
 
--- what is read at a broadcast is added to the data bit by bit; otherwise it takes their place
+-- what is read at a broadcast is ORed into the data; otherwise it takes their place
 unfoldable pub merges : Command → Bool
 merges Brd = true
 merges Brw = true

@@ -1,4 +1,5 @@
--- A frame on its way through the slaves. When it is where is this project's rule.
+-- A frame on its way through the slaves. That the delays are fixed, and that ports latch at their own instants, is this
+-- project's rule.
 use Rattle.std.specs.Prelude.{ℕ, suc, zero, ◌+◌, ◌%◌, ◌^◌, ◌||◌, nat_lt, Bool, true, false, List, [], ◌∷◌, Option, Some, None, option_map, slice_get, if◌then◌else◌}
 use Rattle.ecat_frame.specs.FrameGrammar.{DatagramValue}
 use Rattle.frame_pass.specs.SlaveState.{Measuring, Slave, on_measuring, holding}

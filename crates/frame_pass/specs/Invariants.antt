@@ -22,9 +22,10 @@ pub record IsSound (round_trip limit : ℕ) (s : Slave) : Type 0 where
   pub time : StandsBy limit s.timing
   pub visits : IsWithin round_trip s.visits
 
--- No slave's present time is past the time before which no frame leaves.
-abbrev pub IsTimely : SegmentState → Type 0
-IsTimely s = AllByRecursion (IsSound s.round_trip s.free) s.slaves
+-- Every slave is sound: 4096 bytes of registers, visits within the round trip, and a present time that is not past the time
+-- before which no frame leaves.
+abbrev pub IsSoundSegment : SegmentState → Type 0
+IsSoundSegment s = AllByRecursion (IsSound s.round_trip s.free) s.slaves
 
 -- the segment after these frames, each sent after the same wait
 unfoldable pub after_frames : ℕ → List FrameValue → SegmentState → SegmentState

@@ -1,4 +1,5 @@
--- Registers that nothing but writes of frames changes.
+-- Registers that nothing but writes of frames changes. It is the held numbers that are meant: a read of 0x0910 or 0x0990
+-- may show another.
 use Rattle.std.specs.Prelude.{◌≡◌, ℕ, true, ⊤, List, [], ◌∷◌, length}
 use Rattle.ecat_frame.specs.FrameGrammar.{DatagramValue}
 use Rattle.esc_regs.specs.RegisterBytes.{AreApart}

@@ -79,7 +79,7 @@ segment_step s wait_ns f =
 unfoldable pub finished : ℕ → SegmentState → SegmentState
 finished t s = record s { slaves = map (advanced_to t) s.slaves; free = max t s.free }
 
--- an event of latch input 0 is expected at t
+-- an event of latch input 0 comes at t; meant for a clock that stands at true time 0 (`expect_event`)
 abbrev pub awaiting : ℕ → Timing → Timing
 awaiting t m = record m { event = Some t }
 
@@ -92,6 +92,6 @@ changed_at position change [] = []
 changed_at zero change (s ∷ ss) = change s ∷ ss
 changed_at (suc position) change (s ∷ ss) = s ∷ changed_at position change ss
 
--- at the slave at a position
+-- the segment that expects it at the slave at a position
 unfoldable pub expected_at : ℕ → ℕ → SegmentState → SegmentState
 expected_at position t s = record s { slaves = changed_at position (expecting t) s.slaves }

@@ -21,7 +21,7 @@ latched true m = record m {
 abbrev pub difference : Measuring → ℕ → ℤ
 difference m received = word_difference 32 (system_time m % 2 ^ 32) received
 
--- a difference as 0x092C shows it: its sign in bit 31, and its size in the others, as far as they reach
+-- a difference as 0x092C shows it: its sign in bit 31, and in the others its size, at most 2^31 - 1
 unfoldable pub difference_shown : ℤ → ℕ
 difference_shown (pos n) = min n (2 ^ 31 - 1)
 difference_shown (negsuc n) = 2 ^ 31 + min (n + 1) (2 ^ 31 - 1)

@@ -19,14 +19,15 @@ ghost use Rattle.osc_clock.specs.Ticks.{IsRunning};
 ghost use Rattle.local_clock.specs.Reading.{Clock, Happening};
 ghost use Rattle.frame_pass.specs.FramePass.{slaves_passed, slave_passed, slave_behind, datagrams_behind};
 ghost use Rattle.frame_pass.specs.SegmentState.{SegmentState, segment_step, leaves_at, finished};
-ghost use Rattle.frame_pass.specs.Invariants.{IsSound, IsTimely, IsUnsent, after_frames};
+ghost use Rattle.frame_pass.specs.Invariants.{IsSound, IsSoundSegment, IsUnsent, after_frames};
 ghost use Rattle.frame_pass.specs.Replies.{unanswered};
 ghost use Rattle.ecat_frame.specs.Difference.{first_difference};
 
-/// No slave's present time passes the next sending, nor what was given to finish: time never goes back.
+/// Slaves stay sound, and no slave's present time is past the time before which no frame leaves: a sending, a finish
+/// and an expected event keep it so, and the next frame leaves at that time or later. So time never goes back.
 pub fn times_in_order()
-    ensures step { (s : SegmentState) (wait_ns : ℕ) (f : FrameValue) → IsTimely s → IsTimely (segment_step s wait_ns f).0 }
-    ensures finish { (s : SegmentState) (t : ℕ) → IsTimely s → IsTimely (finished t s) }
+    ensures step { (s : SegmentState) (wait_ns : ℕ) (f : FrameValue) → IsSoundSegment s → IsSoundSegment (segment_step s wait_ns f).0 }
+    ensures finish { (s : SegmentState) (t : ℕ) → IsSoundSegment s → IsSoundSegment (finished t s) }
     ensures next { (s : SegmentState) (wait_ns : ℕ) → s.free ≤ leaves_at s wait_ns }
 {}
 
@@ -49,17 +50,17 @@ pub fn sending_times()
 /// A frame that comes back is the frame that was sent, but for the ADP, the data and the working counter of its
 /// datagrams. So no master sees a difference between them.
 pub fn replies()
-    ensures same { (s : SegmentState) (wait_ns : ℕ) (f : FrameValue) → IsTimely s → IfSome (segment_step s wait_ns f).1 (λ g. unanswered g ≡ unanswered f) }
-    ensures undisturbed { (s : SegmentState) (wait_ns : ℕ) (f : FrameValue) → IsTimely s → IfSome (segment_step s wait_ns f).1 (λ g. first_difference f g ≡ None) }
+    ensures same { (s : SegmentState) (wait_ns : ℕ) (f : FrameValue) → IsSoundSegment s → IfSome (segment_step s wait_ns f).1 (λ g. unanswered g ≡ unanswered f) }
+    ensures undisturbed { (s : SegmentState) (wait_ns : ℕ) (f : FrameValue) → IsSoundSegment s → IfSome (segment_step s wait_ns f).1 (λ g. first_difference f g ≡ None) }
 {}
 
 /// The told clock of a slave is that of its history: its start, the differences that it received and the resets, each
 /// at its instant.
 pub fn clocks_by_history()
     ensures start { (w : ℕ) (s : Slave) (t : Timing) → s.timing ≡ Some t → width s.registers.kind ≡ w → t.clock.reading < 2 ^ w → HasHistory w t.clock [] s }
-    ensures frame { (w : ℕ) (c : Clock) (events : List Happening) (sent : ℕ) (end : Option ℕ) (s : Slave) (ds : List DatagramValue) → IsRunning c.osc → c.instant ≡ 0
+    ensures frame { (w : ℕ) (c : Clock) (events : List Happening) (sent : ℕ) (end : Option ℕ) (s : Slave) (ds : List DatagramValue) → IsRunning c.osc
         → HasHistory w c events s → HasHistory w c (events ++ events_passed sent s ds) (slave_passed sent end s ds) }
-    ensures time { (w : ℕ) (c : Clock) (events : List Happening) (t : ℕ) (s : Slave) → IsRunning c.osc → c.instant ≡ 0
+    ensures time { (w : ℕ) (c : Clock) (events : List Happening) (t : ℕ) (s : Slave) → IsRunning c.osc
         → HasHistory w c events s → HasHistory w c events (advanced_to t s) }
 {}
 

@@ -7,7 +7,7 @@ use Rattle.ecat_link.specs.Exchanges.{Exchange, lost_among}
 use Rattle.master_script.specs.Config.{ConfigValue, settle_frames}
 use Rattle.master_script.specs.Judged.{judged}
 use Rattle.master_script.specs.Kept.{Kept, kept_after, StandsFor}
-use Rattle.master_script.specs.Progress.{Phase, Commissioning, Settling, Arming, Running, Progress, progress, after, beginning, asked, answered, turned, done, planned, noted, brought, counted, moved, settling, settled_by, timed, running, lost_one, run_one}
+use Rattle.master_script.specs.Progress.{Phase, Commissioning, Settling, Arming, Running, Progress, progress, after, beginning, asked, answered, turned, done, planned, noted, brought, counted, moved, settling, settled_by, timed, running, lost_one, drift_one, run_one}
 use Rattle.master_script.specs.Slaves.{judgement}
 use Rattle.master_script.specs.Steps.{expected}
 use Rattle.master_script.specs.declared.step.Refusal.{Refusal}
@@ -18,45 +18,46 @@ record Same (p q : Progress) : Type 0 where
   sent : q.sent ≡ p.sent
   lost : q.lost ≡ p.lost
   ran : q.ran ≡ p.ran
+  drifts : q.drifts ≡ p.drifts
 
 same : (p : Progress) → Same p p
-same p = record { sent = refl; lost = refl; ran = refl }
+same p = record { sent = refl; lost = refl; ran = refl; drifts = refl }
 
 planned_same : (p : Progress) (j : Result ℕ Refusal) → Same p (planned p j)
-planned_same p (Err r) = record { sent = refl; lost = refl; ran = refl }
-planned_same p (Ok x) = record { sent = refl; lost = refl; ran = refl }
+planned_same p (Err r) = record { sent = refl; lost = refl; ran = refl; drifts = refl }
+planned_same p (Ok x) = record { sent = refl; lost = refl; ran = refl; drifts = refl }
 
 done_same : (cfg : ConfigValue) (p : Progress) (s : Phase) (reference : Option ℕ) → Same p (done p s reference)
 done_same cfg p Commissioning None = planned_same p (judgement p.words.slaves)
-done_same cfg p Commissioning (Some r) = record { sent = refl; lost = refl; ran = refl }
+done_same cfg p Commissioning (Some r) = record { sent = refl; lost = refl; ran = refl; drifts = refl }
 done_same cfg p Settling r = same p
-done_same cfg p Arming r = record { sent = refl; lost = refl; ran = refl }
+done_same cfg p Arming r = record { sent = refl; lost = refl; ran = refl; drifts = refl }
 done_same cfg p Running r = same p
 
 turned_same : (cfg : ConfigValue) (p q : Progress) (rest : List Step) → Same p q → Same p (turned q rest)
-turned_same cfg p q [] s = let d = done_same cfg q q.phase q.words.reference in record { sent = d.sent ∙ s.sent; lost = d.lost ∙ s.lost; ran = d.ran ∙ s.ran }
+turned_same cfg p q [] s = let d = done_same cfg q q.phase q.words.reference in record { sent = d.sent ∙ s.sent; lost = d.lost ∙ s.lost; ran = d.ran ∙ s.ran; drifts = d.drifts ∙ s.drifts }
 turned_same cfg p q (next ∷ rest) s = s
 
 answered_same : (cfg : ConfigValue) (p : Progress) (step : Step) (rest : List Step) (f : FrameValue) (o : Option Refusal) → Same p (answered p step rest f o)
-answered_same cfg p step rest f (Some r) = record { sent = refl; lost = refl; ran = refl }
-answered_same cfg p step rest f None = turned_same cfg p (noted p step rest f) rest (record { sent = refl; lost = refl; ran = refl })
+answered_same cfg p step rest f (Some r) = record { sent = refl; lost = refl; ran = refl; drifts = refl }
+answered_same cfg p step rest f None = turned_same cfg p (noted p step rest f) rest (record { sent = refl; lost = refl; ran = refl; drifts = refl })
 
 asked_same : (cfg : ConfigValue) (p : Progress) (sent : FrameValue) (back : Option FrameValue) (todo : List Step) → Same p (asked cfg p sent back todo)
 asked_same cfg p sent back [] = same p
-asked_same cfg p sent None (step ∷ rest) = record { sent = refl; lost = refl; ran = refl }
+asked_same cfg p sent None (step ∷ rest) = record { sent = refl; lost = refl; ran = refl; drifts = refl }
 asked_same cfg p sent (Some f) (step ∷ rest) = answered_same cfg p step rest f (judged step (expected cfg p.words step f) sent f)
 
 settled_by_same : (p : Progress) (time : Option ℕ) → Same p (settled_by p time)
-settled_by_same p None = record { sent = refl; lost = refl; ran = refl }
-settled_by_same p (Some r) = record { sent = refl; lost = refl; ran = refl }
+settled_by_same p None = record { sent = refl; lost = refl; ran = refl; drifts = refl }
+settled_by_same p (Some r) = record { sent = refl; lost = refl; ran = refl; drifts = refl }
 
 settled_same : (p q : Progress) (last : Bool) → Same p q → Same p (cond last (settled_by q q.words.time) q)
-settled_same p q true s = let d = settled_by_same q q.words.time in record { sent = d.sent ∙ s.sent; lost = d.lost ∙ s.lost; ran = d.ran ∙ s.ran }
+settled_same p q true s = let d = settled_by_same q q.words.time in record { sent = d.sent ∙ s.sent; lost = d.lost ∙ s.lost; ran = d.ran ∙ s.ran; drifts = d.drifts ∙ s.drifts }
 settled_same p q false s = s
 
 timed_same : (cfg : ConfigValue) (p : Progress) (f : FrameValue) (o : Option Refusal) → Same p (timed cfg p f o)
-timed_same cfg p f (Some r) = record { sent = refl; lost = refl; ran = refl }
-timed_same cfg p f None = settled_same p (brought cfg p f) (p.drifts == settle_frames cfg) (record { sent = refl; lost = refl; ran = refl })
+timed_same cfg p f (Some r) = record { sent = refl; lost = refl; ran = refl; drifts = refl }
+timed_same cfg p f None = settled_same p (brought cfg p f) (p.drifts == settle_frames cfg) (record { sent = refl; lost = refl; ran = refl; drifts = refl })
 
 settling_same : (cfg : ConfigValue) (p : Progress) (sent : FrameValue) (back : Option FrameValue) → Same p (settling cfg p sent back)
 settling_same cfg p sent None = settled_same p p (p.drifts == settle_frames cfg) (same p)
@@ -64,7 +65,7 @@ settling_same cfg p sent (Some f) = timed_same cfg p f _
 
 running_same : (cfg : ConfigValue) (p : Progress) (sent : FrameValue) (back : Option FrameValue) → Same p (running cfg p sent back)
 running_same cfg p sent None = same p
-running_same cfg p sent (Some f) = record { sent = refl; lost = refl; ran = refl }
+running_same cfg p sent (Some f) = record { sent = refl; lost = refl; ran = refl; drifts = refl }
 
 moved_same : (cfg : ConfigValue) (p : Progress) (sent : FrameValue) (back : Option FrameValue) (o : Option Refusal) (s : Phase) → Same p (moved cfg p sent back o s)
 moved_same cfg p sent back (Some r) s = same p
@@ -81,6 +82,10 @@ after_counts cfg p e = let s = moved_same cfg (counted p e.back) e.sent e.back p
 pub after_ran : (cfg : ConfigValue) (p : Progress) (e : Exchange) → (after cfg p e).ran ≡ p.ran + run_one p.phase
 unfolding after
 after_ran cfg p e = (moved_same cfg (counted p e.back) e.sent e.back p.refused p.phase).ran
+
+pub after_drifts : (cfg : ConfigValue) (p : Progress) (e : Exchange) → (after cfg p e).drifts ≡ p.drifts + drift_one p.phase
+unfolding after
+after_drifts cfg p e = (moved_same cfg (counted p e.back) e.sent e.back p.refused p.phase).drifts
 
 fold_sent : (cfg : ConfigValue) (p : Progress) (es : List Exchange) → (fold (after cfg) p es).sent ≡ p.sent + length es
 fold_sent cfg p [] = sym (add-zero p.sent)

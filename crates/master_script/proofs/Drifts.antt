@@ -1,4 +1,4 @@
--- Drift frames of settling and of running: what a loop of so many frames needs.
+-- Drift frames of settling and of running: the arms of the two loops of so many frames.
 use Rattle.std.proofs.Common.{◌≡◌, ℕ, ◌+◌, ◌<◌, true, false, eqb, ltb, List, [], ◌∷◌, ◌++◌, Option, Some, None, refl, sym, ap, ◌∙◌, arith}
 use Rattle.std.proofs.lemmas.Bool.Decides.{nat_tests}
 use Rattle.ecat_frame.specs.FrameGrammar.{FrameValue}
@@ -7,7 +7,7 @@ use Rattle.ecat_link.specs.Serves.{Send, Serves}
 use Rattle.ecat_link.proofs.Serving.{serves_one, serves_then}
 use Rattle.master_script.specs.Config.{ConfigValue, settle_frames}
 use Rattle.master_script.specs.Judged.{judged}
-use Rattle.master_script.specs.Progress.{Phase, Commissioning, Settling, Arming, Running, Progress, progress, after, settled, settling, timed, running}
+use Rattle.master_script.specs.Progress.{Settling, Running, Progress, progress, after, settled, settling, timed, running}
 use Rattle.master_script.specs.Script.{script, Settle as CallSettle, Run}
 use Rattle.master_script.specs.Steps.{expected, frame_of}
 use Rattle.master_script.specs.Words.{Words}

@@ -1,13 +1,12 @@
 -- Each frame of the script is of the grammar.
-use Rattle.std.proofs.Common.{◌≡◌, ℕ, zero, suc, ◌+◌, ◌<◌, ◌≤◌, ◌^◌, Bool, true, false, List, [], ◌∷◌, ◌++◌, length, Option, Some, None, refl, sym, ap, subst, ◌∙◌, replicate, arith}
+use Rattle.std.proofs.Common.{◌≡◌, ℕ, zero, suc, ◌+◌, ◌<◌, ◌≤◌, ◌^◌, Bool, true, false, List, [], ◌∷◌, ◌++◌, length, Option, Some, None, refl, sym, subst, replicate, arith}
 use Rattle.std.specs.Int.{byte_at, bytes_low_first}
 use Rattle.std.proofs.Math.Nat.{mod-lt}
-use Rattle.std.proofs.lemmas.List.{length-append}
 use Rattle.std.proofs.lemmas.List.Elements.{All-nil, All-cons, All-append, All-replicate}
 use Rattle.byteorder.specs.Endian.{little_bytes}
 use Rattle.byteorder.specs.Numbers.{length-bytes_low_first}
 use Rattle.ecat_frame.specs.Built.{built, size_of}
-use Rattle.ecat_frame.specs.FrameGrammar.{AreBytes, DatagramValue, FrameValue, IsDatagram, IsFrame}
+use Rattle.ecat_frame.specs.FrameGrammar.{AreBytes, DatagramValue, IsDatagram, IsFrame}
 use Rattle.ecat_frame.specs.declared.command.Command.{Command}
 use Rattle.ecat_frame.proofs.Build.{IsFrame-built}
 use Rattle.ecat_frame.proofs.Datagrams.{length-all_spelled}

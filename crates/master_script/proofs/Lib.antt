@@ -11,3 +11,7 @@ pub mod Within
 pub mod Grammar
 pub mod Wants
 pub mod Replies
+pub mod Known
+pub mod Staying
+pub mod Stages
+pub mod Worked

@@ -1,30 +1,27 @@
 -- How much a script sends at most: 9 (n + 1) in commissioning, K + m + 1 in settling, 3 n in arming, and the run frames.
-use Rattle.std.proofs.Common.{◌≡◌, ℕ, zero, suc, ◌+◌, ◌*◌, ◌<◌, ◌≤◌, Bool, true, false, cond, eqb, ltb, ◌==◌, List, [], ◌∷◌, ◌++◌, length, map, filter, append_assoc, IsSome, Option, Some, None, Result, Ok, Err, refl, sym, ap, subst, arith}
+use Rattle.std.proofs.Common.{◌≡◌, ℕ, zero, suc, ◌+◌, ◌*◌, ◌<◌, ◌≤◌, Bool, true, false, cond, eqb, ltb, ◌==◌, List, [], ◌∷◌, ◌++◌, length, append_assoc, IsSome, Option, Some, None, Result, Ok, Err, refl, sym, ap, subst, arith}
 use Rattle.std.proofs.lemmas.Bool.Decides.{nat_tests}
 use Rattle.std.proofs.lemmas.List.{append-nil, length-map, length-append}
-use Rattle.std.proofs.lemmas.List.Sums.{length-filter, count_by-le-length}
 use Rattle.std.proofs.lemmas.List.FromFn.{length-range_with_len}
 use Rattle.ecat_frame.specs.FrameGrammar.{FrameValue}
 use Rattle.ecat_link.specs.Exchanges.{Exchange, StepOf}
-use Rattle.dc_bounds.specs.Weight.{flag}
 use Rattle.dc_delay.specs.ShapeRows.{positions}
 use Rattle.master_script.specs.Config.{ConfigValue, settle_frames}
 use Rattle.master_script.specs.Judged.{judged}
-use Rattle.master_script.specs.Slaves.{SlaveWords, is_measuring, is_clock, measuring, clocks, judgement}
+use Rattle.master_script.specs.Slaves.{judgement}
 use Rattle.master_script.specs.Scripted.{AreScripted, none, more, IsLimited}
 use Rattle.master_script.specs.Steps.{expected}
-use Rattle.master_script.specs.Words.{Words}
 use Rattle.ecat_link.specs.Drive.{drive, exchange_of}
 use Rattle.ecat_link.specs.Serves.{Next, Send, End, Sends}
 use Rattle.master_script.specs.Script.{Answer, script, Call, Commission, Settle as CallSettle, Arm as CallArm, Run, asks_next, drifts_next, next_in, next_by}
-use Rattle.master_script.proofs.Todo.{identifies, one_identify, all_identify, later_few, later_none, arm_few, learned_slaves, learned_reference}
+use Rattle.master_script.proofs.Todo.{identifies, all_identify, later_few, later_none, arm_few, learned_slaves, learned_reference}
 use Rattle.master_script.proofs.Folds.{progress_push}
 use Rattle.master_script.proofs.Counts.{after_ran, progress_sent}
-use Rattle.master_script.specs.Progress.{Phase, Commissioning, Settling, Arming, Running, Progress, progress, beginning, run_one, later_steps, arm_steps, after, asked, answered, noted, done, planned, missed, lost_at, counted, moved, settling, settled_by, timed, brought, running}
+use Rattle.master_script.specs.Progress.{Phase, Commissioning, Settling, Arming, Running, Progress, progress, beginning, run_one, after, asked, answered, noted, done, planned, missed, lost_at, counted, moved, settling, settled_by, timed, brought, running}
 use Rattle.master_script.specs.declared.step.Refusal.{Refusal}
 use Rattle.master_script.specs.declared.step.Refusal.TheVariants.{Lost}
 use Rattle.master_script.specs.declared.step.Step.{Step}
-use Rattle.master_script.specs.declared.step.Step.TheVariants.{Count, Identify, Rate, Latch, Times, Set, Settle, Drift, Arm}
+use Rattle.master_script.specs.declared.step.Step.TheVariants.{Identify, Drift}
 
 -- what the slaves' judgement still adds
 abbrev pub ahead : ℕ → Option ℕ → ℕ

@@ -13,15 +13,15 @@ use Rattle.master_script.specs.Words.{Words}
 use Rattle.master_script.specs.declared.step.Refusal.{Refusal}
 use Rattle.master_script.specs.declared.step.Step.{Step}
 use Rattle.master_script.specs.declared.step.Stage.{Stage}
-use Rattle.master_script.specs.declared.step.Stage.TheVariants.{Fresh, Commissioned, Settled, Armed, Ended, Spent}
+use Rattle.master_script.specs.declared.step.Stage.TheVariants.{Fresh, Commissioned, Settled, Armed, Ended}
 
 -- what holds of a place that exchanges lead to, by its refusal and stage
 abbrev pub SoundBy : ConfigValue → Progress → Option Refusal → Phase → Type 0
 SoundBy cfg p (Some r) s = Unit {0}
 SoundBy cfg p None Commissioning = (p.ran ≡ 0) × (p.drifts ≡ 0)
-SoundBy cfg p None Settling = (p.ran ≡ 0) × (p.todo ≡ []) × (p.tries ≡ 0)
+SoundBy cfg p None Settling = (p.ran ≡ 0) × (p.todo ≡ []) × (p.tries ≡ 0) × (p.drifts < settle_frames cfg)
 SoundBy cfg p None Arming = (p.ran ≡ 0) × (settle_frames cfg ≤ p.drifts) × (p.drifts ≡ settle_frames cfg → (p.todo ≡ arm_steps p.words.slaves) × (p.tries ≡ 0))
-SoundBy cfg p None Running = (p.todo ≡ []) × (p.tries ≡ 0)
+SoundBy cfg p None Running = (p.todo ≡ []) × (p.tries ≡ 0) × (settle_frames cfg < p.drifts)
 
 abbrev pub IsSound : ConfigValue → Progress → Type 0
 IsSound cfg p = SoundBy cfg p p.refused p.phase
@@ -42,7 +42,7 @@ planned_sound cfg p (Ok x) n s a b = rw (n, s) (a, b)
 -- the last step of commissioning
 done_fresh : (cfg : ConfigValue) (p : Progress) (reference : Option ℕ) → p.refused ≡ None → p.phase ≡ Commissioning → p.todo ≡ [] → p.tries ≡ 0 → p.ran ≡ 0 → p.drifts ≡ 0 → IsSound cfg (done p Commissioning reference)
 done_fresh cfg p None n s t z a b = planned_sound cfg p (judgement p.words.slaves) n s a b
-done_fresh cfg p (Some r) n s t z a b = rw n (a, t, z)
+done_fresh cfg p (Some r) n s t z a b = rw n (a, t, z, omega (arith, b))
 
 answered_fresh : (cfg : ConfigValue) (p : Progress) (step : Step) (rest : List Step) (f : FrameValue) (o : Option Refusal) → p.refused ≡ None → p.phase ≡ Commissioning → p.ran ≡ 0 → p.drifts ≡ 0 → IsSound cfg (answered p step rest f o)
 answered_fresh cfg p step rest f (Some r) n s a b = tt
@@ -61,7 +61,7 @@ answered_settled : (cfg : ConfigValue) (p : Progress) (step : Step) (rest : List
 answered_settled cfg p step rest f (Some r) n s a b = tt
 answered_settled cfg p step [] f None n s a b =
     let q = noted p step [] f in
-    subst (λ x. IsSound cfg (done q x q.words.reference)) (sym s) (rw n (refl, refl))
+    subst (λ x. IsSound cfg (done q x q.words.reference)) (sym s) (rw n (refl, refl, b))
 answered_settled cfg p step (next ∷ rest) f None n s a b = rw (n, s) (arming_sound cfg (noted p step (next ∷ rest) f) None a b)
 
 asked_settled : (cfg : ConfigValue) (p : Progress) (sent : FrameValue) (back : Option FrameValue) (todo : List Step) → p.refused ≡ None → p.phase ≡ Arming → p.ran ≡ 0 → settle_frames cfg < p.drifts → IsSound cfg (asked cfg p sent back todo)
@@ -77,35 +77,40 @@ settled_by_sound : (cfg : ConfigValue) (p : Progress) (time : Option ℕ) → p.
 settled_by_sound cfg p None n a z d = tt
 settled_by_sound cfg p (Some r) n a z d = rw n (a, omega (arith, d), λ e. (refl, z))
 
-settled_sound : (cfg : ConfigValue) (p : Progress) (last : Bool) → eqb p.drifts (settle_frames cfg) ≡ last → p.refused ≡ None → p.phase ≡ Settling → p.ran ≡ 0 → p.todo ≡ [] → p.tries ≡ 0 → IsSound cfg (cond last (settled_by p p.words.time) p)
-settled_sound cfg p true l n s a t z = settled_by_sound cfg p p.words.time n a z (from_eqb _ _ l)
-settled_sound cfg p false l n s a t z = rw (n, s) (a, t, z)
+less : (m k : ℕ) → eqb m k ≡ false → m ≤ k → m < k
+less m k h l = grind (arith, nat_tests)
 
-timed_sound : (cfg : ConfigValue) (p : Progress) (f : FrameValue) (o : Option Refusal) → p.refused ≡ None → p.phase ≡ Settling → p.ran ≡ 0 → p.todo ≡ [] → p.tries ≡ 0 → IsSound cfg (timed cfg p f o)
-timed_sound cfg p f (Some r) n s a t z = tt
-timed_sound cfg p f None n s a t z = settled_sound cfg (brought cfg p f) _ refl n s a t z
+settled_sound : (cfg : ConfigValue) (p : Progress) (last : Bool) → eqb p.drifts (settle_frames cfg) ≡ last → p.refused ≡ None → p.phase ≡ Settling → p.ran ≡ 0 → p.todo ≡ [] → p.tries ≡ 0 → p.drifts ≤ settle_frames cfg
+    → IsSound cfg (cond last (settled_by p p.words.time) p)
+settled_sound cfg p true l n s a t z d = settled_by_sound cfg p p.words.time n a z (from_eqb _ _ l)
+settled_sound cfg p false l n s a t z d = rw (n, s) (a, t, z, less p.drifts (settle_frames cfg) l d)
 
-settling_sound : (cfg : ConfigValue) (p : Progress) (sent : FrameValue) (back : Option FrameValue) → p.refused ≡ None → p.phase ≡ Settling → p.ran ≡ 0 → p.todo ≡ [] → p.tries ≡ 0 → IsSound cfg (settling cfg p sent back)
-settling_sound cfg p sent None n s a t z = settled_sound cfg p _ refl n s a t z
-settling_sound cfg p sent (Some f) n s a t z = timed_sound cfg p f _ n s a t z
+timed_sound : (cfg : ConfigValue) (p : Progress) (f : FrameValue) (o : Option Refusal) → p.refused ≡ None → p.phase ≡ Settling → p.ran ≡ 0 → p.todo ≡ [] → p.tries ≡ 0 → p.drifts ≤ settle_frames cfg → IsSound cfg (timed cfg p f o)
+timed_sound cfg p f (Some r) n s a t z d = tt
+timed_sound cfg p f None n s a t z d = settled_sound cfg (brought cfg p f) _ refl n s a t z d
+
+settling_sound : (cfg : ConfigValue) (p : Progress) (sent : FrameValue) (back : Option FrameValue) → p.refused ≡ None → p.phase ≡ Settling → p.ran ≡ 0 → p.todo ≡ [] → p.tries ≡ 0 → p.drifts ≤ settle_frames cfg
+    → IsSound cfg (settling cfg p sent back)
+settling_sound cfg p sent None n s a t z d = settled_sound cfg p _ refl n s a t z d
+settling_sound cfg p sent (Some f) n s a t z d = timed_sound cfg p f _ n s a t z d
 
 -- running
-running_any : (cfg : ConfigValue) (p : Progress) (o : Option Refusal) → p.todo ≡ [] → p.tries ≡ 0 → SoundBy cfg p o Running
-running_any cfg p None t z = (t, z)
-running_any cfg p (Some r) t z = tt
+running_any : (cfg : ConfigValue) (p : Progress) (o : Option Refusal) → p.todo ≡ [] → p.tries ≡ 0 → settle_frames cfg < p.drifts → SoundBy cfg p o Running
+running_any cfg p None t z d = (t, z, d)
+running_any cfg p (Some r) t z d = tt
 
-running_sound : (cfg : ConfigValue) (p : Progress) (sent : FrameValue) (back : Option FrameValue) → p.refused ≡ None → p.phase ≡ Running → p.todo ≡ [] → p.tries ≡ 0 → IsSound cfg (running cfg p sent back)
-running_sound cfg p sent None n s t z = rw (n, s) (t, z)
-running_sound cfg p sent (Some f) n s t z = rw s (running_any cfg (running cfg p sent (Some f)) _ t z)
+running_sound : (cfg : ConfigValue) (p : Progress) (sent : FrameValue) (back : Option FrameValue) → p.refused ≡ None → p.phase ≡ Running → p.todo ≡ [] → p.tries ≡ 0 → settle_frames cfg < p.drifts → IsSound cfg (running cfg p sent back)
+running_sound cfg p sent None n s t z d = rw (n, s) (t, z, d)
+running_sound cfg p sent (Some f) n s t z d = rw s (running_any cfg (running cfg p sent (Some f)) _ t z d)
 
 moved_sound : (cfg : ConfigValue) (p : Progress) (sent : FrameValue) (back : Option FrameValue) (o : Option Refusal) (s : Phase) → p.refused ≡ o → p.phase ≡ s → SoundBy cfg p o s → IsSound cfg (moved cfg (counted p back) sent back o s)
 moved_sound cfg p sent back (Some r) s n e h = rw n tt
 moved_sound cfg p sent back None Commissioning n e h = asked_fresh cfg (counted p back) sent back p.todo n e (rw e (omega (arith, h.0))) (rw e (omega (arith, h.1)))
-moved_sound cfg p sent back None Settling n e h = settling_sound cfg (counted p back) sent back n e (rw e (omega (arith, h.0))) h.1 h.2
+moved_sound cfg p sent back None Settling n e h = settling_sound cfg (counted p back) sent back n e (rw e (omega (arith, h.0))) h.1 h.2 (rw e (let d = h.3 in omega (arith, d)))
 moved_sound cfg p sent back None Arming n e h = asked_settled cfg (counted p back) sent back p.todo n e (rw e (omega (arith, h.0))) (rw e (omega (arith, h.1)))
-moved_sound cfg p sent back None Running n e h = running_sound cfg (counted p back) sent back n e h.0 h.1
+moved_sound cfg p sent back None Running n e h = running_sound cfg (counted p back) sent back n e h.0 h.1 (rw e (let d = h.2 in omega (arith, d)))
 
-after_sound : (cfg : ConfigValue) (p : Progress) (e : Exchange) → IsSound cfg p → IsSound cfg (after cfg p e)
+pub after_sound : (cfg : ConfigValue) (p : Progress) (e : Exchange) → IsSound cfg p → IsSound cfg (after cfg p e)
 unfolding after
 after_sound cfg p e h = moved_sound cfg p e.sent e.back p.refused p.phase refl refl h
 

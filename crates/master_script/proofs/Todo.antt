@@ -1,5 +1,5 @@
 -- The steps that are still to be asked, counted.
-use Rattle.std.proofs.Common.{◌≡◌, ℕ, ◌+◌, ◌*◌, ◌≤◌, Bool, List, [], ◌∷◌, ◌++◌, length, map, filter, Option, refl, arith}
+use Rattle.std.proofs.Common.{◌≡◌, ℕ, ◌+◌, ◌*◌, ◌≤◌, Bool, List, [], ◌∷◌, ◌++◌, length, map, filter, refl, arith}
 use Rattle.std.proofs.lemmas.List.{length-map, length-append}
 use Rattle.std.proofs.lemmas.List.Sums.{length-filter, count_by-le-length}
 use Rattle.std.proofs.lemmas.List.FromFn.{length-range_with_len}
@@ -11,7 +11,7 @@ use Rattle.master_script.specs.Slaves.{SlaveWords, is_measuring, is_clock, measu
 use Rattle.master_script.specs.Steps.{learned, identified}
 use Rattle.master_script.specs.Words.{Words}
 use Rattle.master_script.specs.declared.step.Step.{Step}
-use Rattle.master_script.specs.declared.step.Step.TheVariants.{Count, Identify, Rate, Latch, Times, Set, Settle, Drift, Arm}
+use Rattle.master_script.specs.declared.step.Step.TheVariants.{Identify, Latch, Times, Set, Arm}
 
 marked_few : (flags : ℕ → Bool) (n : ℕ) → length (filter flags (positions n)) ≤ n
 marked_few flags n =

@@ -1,7 +1,7 @@
 -- What it means that a call wants a frame: the frame is that of a step of the call's phase.
 use Rattle.std.proofs.Common.{◌≡◌, ◌≢◌, ℕ, ◌+◌, ◌<◌, ◌≤◌, Bool, true, false, cond, ltb, List, [], ◌∷◌, length, Option, Some, None, Ok, slice_get, refl, sym, ap, subst, ◌∙◌, arith}
 use Rattle.ecat_frame.specs.FrameGrammar.{DatagramValue, FrameValue, IsFrame}
-use Rattle.ecat_frame.specs.declared.command.Command.TheVariants.{Apwr, Fprd, Fpwr, Brd, Bwr, Frmw}
+use Rattle.ecat_frame.specs.declared.command.Command.TheVariants.{Frmw}
 use Rattle.ecat_link.specs.Exchanges.{Exchange}
 use Rattle.ecat_link.specs.Serves.{Send, End}
 use Rattle.master_script.specs.Config.{ConfigValue}

@@ -1,5 +1,5 @@
 -- The positions that steps and words name are those of slaves, and each phase asks its own steps.
-use Rattle.std.proofs.Common.{◌≡◌, ℕ, zero, suc, ◌+◌, ◌<◌, ◌≤◌, Bool, true, false, cond, List, [], ◌∷◌, ◌++◌, length, map, filter, Option, Some, None, Result, Ok, Err, fold, unwrap_or, refl, sym, ap, subst, ◌∙◌, arith}
+use Rattle.std.proofs.Common.{◌≡◌, ℕ, zero, suc, ◌+◌, ◌<◌, ◌≤◌, Bool, true, false, cond, List, [], ◌∷◌, ◌++◌, length, map, filter, Option, Some, None, Result, Ok, Err, fold, unwrap_or, refl, sym, ap, subst, arith}
 use Rattle.std.specs.List.{find, range_with_len}
 use Rattle.std.proofs.lemmas.List.{length-map}
 use Rattle.std.proofs.lemmas.List.FromFn.{length-range_with_len}
@@ -12,17 +12,17 @@ use Rattle.dc_topology.specs.declared.error.TopologyError.TheVariants.{BadStatus
 use Rattle.dc_bounds.specs.Weight.{flag}
 use Rattle.dc_delay.specs.Refusals.{first_timed, first_unmeasurable}
 use Rattle.dc_delay.specs.ShapeRows.{positions}
-use Rattle.master_script.specs.Config.{ConfigValue, settle_frames}
+use Rattle.master_script.specs.Config.{ConfigValue}
 use Rattle.master_script.specs.Judged.{judged}
 use Rattle.master_script.specs.ListedTree.{walk, tree_of, behind}
-use Rattle.master_script.specs.Progress.{Phase, Commissioning, Settling, Arming, Running, Progress, progress, beginning, first_steps, later_steps, arm_steps, after, asked, answered, noted, done, turned, planned, counted, moved, settling, settled_by, timed, brought, running}
+use Rattle.master_script.specs.Progress.{Phase, Commissioning, Settling, Arming, Running, Progress, progress, beginning, later_steps, arm_steps, after, asked, answered, noted, done, turned, planned, counted, moved, settling, settled_by, timed, brought, running}
 use Rattle.master_script.specs.Slaves.{SlaveWords, is_measuring, is_clock, measuring, clocks, judgement, judged_tree, judged_clocks, tree_told}
-use Rattle.master_script.specs.Steps.{learned, expected}
-use Rattle.master_script.specs.Words.{Words}
+use Rattle.master_script.specs.Steps.{expected}
+use Rattle.master_script.specs.Words.{hung_or_none}
 use Rattle.master_script.specs.declared.step.Refusal.{Refusal}
 use Rattle.master_script.specs.declared.step.Step.{Step}
 use Rattle.master_script.specs.declared.step.Step.TheVariants.{Count, Identify, Rate, Latch, Times, Set, Settle, Drift, Arm}
-use Rattle.master_script.proofs.Todo.{identifies, one_identify, later_none, arm_none, learned_slaves, learned_reference, all_identify}
+use Rattle.master_script.proofs.Todo.{identifies, later_none, arm_none, learned_slaves, learned_reference, all_identify}
 
 -- numbers below n
 abbrev pub Below : ℕ → List ℕ → Type 0
@@ -83,11 +83,23 @@ reference_of_tree ss (Ok hung) x h j =
     let f = reference_of_clocks clocks_told others x j in
     find_below (length ss) (flag (map is_clock ss)) (positions (length hung)) x (positions_below (length ss) (length hung) (omega (arith, h))) f
 
+-- the tree of judged slaves has them all
+hung_all : (ss : List SlaveWords) (r : Result (List Place) TopologyError) (x : ℕ) → HasLength (length ss) r → judged_tree ss r ≡ Ok x → length (hung_or_none r) ≡ length ss
+hung_all ss (Err e) x h j = absurd cc
+hung_all ss (Ok hung) x h j = h
+
+tree_length : (ss : List SlaveWords) → HasLength (length ss) (tree_told ss)
+tree_length ss =
+    let statuses = map (λ (s : SlaveWords). s.status) ss in
+    subst (λ k. HasLength k (tree_of statuses)) (length-map ss (λ (s : SlaveWords). s.status)) (walk_length (None ∷ []) 0 statuses)
+
+pub hung_length : (ss : List SlaveWords) (x : ℕ) → judgement ss ≡ Ok x → length (hung_or_none (tree_told ss)) ≡ length ss
+unfolding judgement
+hung_length ss x j = hung_all ss (tree_told ss) x (tree_length ss) j
+
 judged_below : (ss : List SlaveWords) (x : ℕ) → judgement ss ≡ Ok x → x < length ss
 unfolding judgement
-judged_below ss x j =
-    let statuses = map (λ (s : SlaveWords). s.status) ss in
-    reference_of_tree ss (tree_told ss) x (subst (λ k. HasLength k (tree_of statuses)) (length-map ss (λ (s : SlaveWords). s.status)) (walk_length (None ∷ []) 0 statuses)) j
+judged_below ss x j = reference_of_tree ss (tree_told ss) x (tree_length ss) j
 
 -- the position of a step
 abbrev pub StepWithin : ℕ → Step → Type 0
@@ -248,7 +260,7 @@ moved_within n cfg p sent back None Settling w = settling_within n cfg p sent ba
 moved_within n cfg p sent back None Arming w = asked_within n cfg p sent back p.todo refl w
 moved_within n cfg p sent back None Running w = running_within n cfg p sent back w
 
-after_within : (n : ℕ) (cfg : ConfigValue) (p : Progress) (e : Exchange) → Within n p → Within n (after cfg p e)
+pub after_within : (n : ℕ) (cfg : ConfigValue) (p : Progress) (e : Exchange) → Within n p → Within n (after cfg p e)
 unfolding after
 after_within n cfg p e w =
     moved_within n cfg (counted p e.back) e.sent e.back p.refused p.phase (record { todo = w.todo; room = w.room; reference = w.reference; steps = w.steps })

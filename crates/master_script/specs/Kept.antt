@@ -5,7 +5,7 @@ use Rattle.ecat_link.specs.Exchanges.{Exchange}
 use Rattle.ecat_link.specs.Serves.{End}
 use Rattle.master_script.specs.Config.{ConfigValue, settle_frames}
 use Rattle.master_script.specs.Progress.{Phase, Commissioning, Settling, Arming, Running, Progress, progress}
-use Rattle.master_script.specs.Script.{Call, Commission, Run, Answer, script}
+use Rattle.master_script.specs.Script.{Call, Run, Answer, script}
 use Rattle.master_script.specs.Words.{Words, delays_of, start_at}
 use Rattle.master_script.specs.declared.step.Refusal.{Refusal}
 use Rattle.master_script.specs.declared.step.Step.{Step}

@@ -10,3 +10,6 @@ pub mod Progress
 pub mod Script
 pub mod Kept
 pub mod Scripted
+pub mod StaysKept
+pub mod Stages
+pub mod Rows

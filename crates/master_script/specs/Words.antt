@@ -1,5 +1,5 @@
 -- What a master has learned, and what follows from it for the clocks.
-use Rattle.std.specs.Prelude.{ℕ, ◌+◌, ◌*◌, Bool, List, [], length, map, Option, Some, None, Result, Ok, Err, slice_index_or, unwrap_or}
+use Rattle.std.specs.Prelude.{ℕ, ◌*◌, Bool, List, [], length, map, Option, Some, None, Result, Ok, Err, slice_index_or, unwrap_or}
 use Rattle.dc_topology.specs.Listed.{Place}
 use Rattle.dc_topology.specs.declared.error.TopologyError.{TopologyError}
 use Rattle.dc_bounds.specs.Weight.{flag}

@@ -21,10 +21,12 @@ ghost use Rattle.master_script.specs.ListedTree.{tree_of};
 ghost use Rattle.master_script.specs.Progress.{Arming, Running, Settling, arm_steps, progress};
 ghost use Rattle.master_script.specs.Script.{Call, Commission, script};
 ghost use Rattle.master_script.specs.Scripted.{AreScripted, IsLimited};
+ghost use Rattle.master_script.specs.Stages.{HasDrifts};
+ghost use Rattle.master_script.specs.StaysKept.{StaysKept};
 ghost use Rattle.master_script.specs.Steps.{datagrams_of, frame_of};
 ghost use Rattle.master_script.specs.Words.{Words, reference_of};
 ghost use Rattle.master_script.specs.declared.step.Refusal.TheVariants.{Counter, Reply};
-ghost use Rattle.master_script.specs.declared.step.Stage.TheVariants.{Armed, Commissioned, Settled};
+ghost use Rattle.master_script.specs.declared.step.Stage.TheVariants.{Armed, Commissioned, Fresh, Settled, Spent};
 ghost use Rattle.master_script.specs.declared.step.Step.{Step};
 
 /// What a master keeps between two calls tells how far the script has come, whatever the exchanges were: no
@@ -38,6 +40,30 @@ pub fn kept_tells_progress()
         → progress m.config es ≡ resting m Arming (arm_steps m.words.slaves) }
     ensures armed { (m : Kept) (es : List Exchange) → StandsFor None m es → m.stage ≡ Armed
         → progress m.config es ≡ resting m Running [] }
+{}
+
+/// What a master keeps stays kept, whatever exchanges follow: no step changes what an earlier one taught.
+pub fn kept_stays_kept()
+    ensures { (cfg : ConfigValue) (frames : Option ℕ) (es fs : List Exchange) → 0 < slaves cfg
+        → StaysKept (kept_after cfg frames es) (kept_after cfg frames (es ++ fs)) }
+{}
+
+/// What the stage says of the rest that is kept. A master is spent exactly where it was refused. Behind
+/// commissioning there are a reference and an entry of the delays for each position. The start is there
+/// from the first frame of arming on.
+pub fn stages_tell_the_rest()
+    ensures spent { (cfg : ConfigValue) (frames : Option ℕ) (es : List Exchange)
+        → ((kept_after cfg frames es).stage ≡ Spent) ↔ IsSome (kept_after cfg frames es).refusal }
+    ensures reference { (cfg : ConfigValue) (frames : Option ℕ) (es : List Exchange) → 0 < slaves cfg
+        → (kept_after cfg frames es).stage ≢ Fresh → (kept_after cfg frames es).stage ≢ Spent
+        → IsSome (kept_after cfg frames es).words.reference }
+    ensures delays { (cfg : ConfigValue) (frames : Option ℕ) (es : List Exchange) → 0 < slaves cfg
+        → (kept_after cfg frames es).stage ≢ Fresh → (kept_after cfg frames es).stage ≢ Spent
+        → length (kept_after cfg frames es).delays ≡ slaves cfg }
+    ensures drifts { (cfg : ConfigValue) (frames : Option ℕ) (es : List Exchange) → 0 < slaves cfg
+        → HasDrifts cfg (kept_after cfg frames es).drifts (kept_after cfg frames es).stage }
+    ensures start { (cfg : ConfigValue) (frames : Option ℕ) (es : List Exchange)
+        → IsSome (kept_after cfg frames es).start ↔ (settle_frames cfg < (kept_after cfg frames es).drifts) }
 {}
 
 /// The numbers of sendings and of losses that are kept are those of the exchanges.

@@ -9,7 +9,7 @@ use Rattle.master_script.specs.Script.{Call, Commission, Settle, Arm, Run, Answe
 use Rattle.master_script.specs.Scripted.{AreScripted, IsLimited, none}
 use Rattle.master_script.proofs.Limits.{call_ends, calls_scripted, sends_most}
 use Rattle.frame_pass.specs.SegmentState.{SegmentState, segment_step}
-use Rattle.frame_pass.specs.Invariants.{IsTimely}
+use Rattle.frame_pass.specs.Invariants.{IsSoundSegment}
 use Rattle.frame_pass.proofs.Sound.{timely_step}
 use Rattle.segment_file.specs.Segment.{SegmentValue}
 use Rattle.segment_file.specs.Legal.{IsLegal}
@@ -22,15 +22,15 @@ use Rattle.run_of_file.proofs.InRange.{as_many_kinds, some_rows, few_rows, lock_
 -- what holds of a run between two calls
 pub record IsOn (s : SegmentValue) (run : RunEnd) : Type 0 where
   pub scripted : AreScripted (master_of s) (frames_given s) run.exchanges
-  pub timely : IsTimely run.state
+  pub timely : IsSoundSegment run.state
 
 -- a phase of a run ends, and stays on
 pub record HasEnd (s : SegmentValue) (run : Option RunEnd) : Type 0 where
   pub some : IsSome run
   pub on : (r : RunEnd) → run ≡ Some r → IsOn s r
 
-timely_runs : (es : List Exchange) (s t : SegmentState) → Runs segment_step (Some s) es (Some t) → IsTimely s → IsTimely t
-timely_runs [] s t r h = let same : s ≡ t = cc in subst IsTimely same h
+timely_runs : (es : List Exchange) (s t : SegmentState) → Runs segment_step (Some s) es (Some t) → IsSoundSegment s → IsSoundSegment t
+timely_runs [] s t r h = let same : s ≡ t = cc in subst IsSoundSegment same h
 timely_runs (e ∷ es) s t r h = timely_runs es (segment_step s e.wait_ns e.sent).0 t r.1 (timely_step s e.wait_ns e.sent h)
 
 enough : (kinds few limit frames before : ℕ) → 0 < kinds → kinds ≤ 256 → few ≤ 100000 → limit ≤ 15 → frames ≤ 100000 → (t : ℕ) → t ≡ 300000
@@ -42,7 +42,7 @@ unfolding turns
 turns_are = refl
 
 call_on : (s : SegmentValue) → IsLegal s → (call : Call) → IsLimited (frames_given s) call → (before : List Exchange) (state : SegmentState)
-    → AreScripted (master_of s) (frames_given s) before → IsTimely state → HasEnd s (call_run s call before state)
+    → AreScripted (master_of s) (frames_given s) before → IsSoundSegment state → HasEnd s (call_run s call before state)
 call_on s legal call limited before state scripted timely = record {
   some = call_ends segment_step (master_of s) (frames_given s) call turns before state
       (let some = some_rows s legal in let many = as_many_kinds s legal in omega (arith, some, many)) limited scripted

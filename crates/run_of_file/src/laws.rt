@@ -2,7 +2,7 @@
 
 ghost use Rattle.std.specs.Prelude.{◌≡◌, ℕ, ◌<◌, ◌≤◌, Some, IsSome, length};
 ghost use Rattle.master_script.specs.Scripted.{AreScripted};
-ghost use Rattle.frame_pass.specs.Invariants.{IsTimely};
+ghost use Rattle.frame_pass.specs.Invariants.{IsSoundSegment};
 ghost use Rattle.segment_file.specs.Segment.{SegmentValue};
 ghost use Rattle.segment_file.specs.Legal.{IsLegal};
 ghost use Rattle.run_of_file.specs.MasterOfFile.{master_of};
@@ -29,8 +29,8 @@ pub fn runs_end()
 
 /// The exchanges of a run are those that the script wants, in each phase, and time never goes back in it.
 pub fn runs_follow_the_script()
-    ensures commissioned { (s : SegmentValue) (run : RunEnd) → IsLegal s → commissioned s ≡ Some run → AreScripted (master_of s) (frames_given s) run.exchanges × IsTimely run.state }
-    ensures settled { (s : SegmentValue) (run : RunEnd) → IsLegal s → settled s ≡ Some run → AreScripted (master_of s) (frames_given s) run.exchanges × IsTimely run.state }
-    ensures armed { (s : SegmentValue) (run : RunEnd) → IsLegal s → armed s ≡ Some run → AreScripted (master_of s) (frames_given s) run.exchanges × IsTimely run.state }
-    ensures ran { (s : SegmentValue) (run : RunEnd) → IsLegal s → ran s ≡ Some run → AreScripted (master_of s) (frames_given s) run.exchanges × IsTimely run.state }
+    ensures commissioned { (s : SegmentValue) (run : RunEnd) → IsLegal s → commissioned s ≡ Some run → AreScripted (master_of s) (frames_given s) run.exchanges × IsSoundSegment run.state }
+    ensures settled { (s : SegmentValue) (run : RunEnd) → IsLegal s → settled s ≡ Some run → AreScripted (master_of s) (frames_given s) run.exchanges × IsSoundSegment run.state }
+    ensures armed { (s : SegmentValue) (run : RunEnd) → IsLegal s → armed s ≡ Some run → AreScripted (master_of s) (frames_given s) run.exchanges × IsSoundSegment run.state }
+    ensures ran { (s : SegmentValue) (run : RunEnd) → IsLegal s → ran s ≡ Some run → AreScripted (master_of s) (frames_given s) run.exchanges × IsSoundSegment run.state }
 {}

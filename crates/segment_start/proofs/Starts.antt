@@ -18,7 +18,7 @@ use Rattle.segment_file.specs.Segment.{RowValue, SegmentValue, oscillator, tree_
 use Rattle.segment_file.specs.Legal.{IsLegal}
 use Rattle.segment_file.proofs.LegalLemmas.{order_many, row_within}
 use Rattle.frame_pass.specs.SlaveState.{Timing, Slave, Visits}
-use Rattle.frame_pass.specs.Invariants.{IsSound, IsTimely, IsWithin, StandsBy}
+use Rattle.frame_pass.specs.Invariants.{IsSound, IsSoundSegment, IsWithin, StandsBy}
 use Rattle.frame_pass.proofs.Sizes.{size_holding}
 use Rattle.segment_start.specs.Start.{registers_of, slave_of, slave_by, timing_by, timing_of, visits_of, no_row, started_segment}
 use Rattle.cable_tree.proofs.Inside.{port_time_inside}
@@ -72,7 +72,7 @@ by_places : (n : ℕ) (rs : List ℕ) → ((i : ℕ) → i < length rs → slice
 by_places n [] each = tt
 by_places n (r ∷ rs) each = (each 0 (omega arith), by_places n rs (λ i low. each (suc i) (omega (arith, low))))
 
-pub starts_timely : (s : SegmentValue) → IsLegal s → IsTimely (started_segment s)
+pub starts_timely : (s : SegmentValue) → IsLegal s → IsSoundSegment (started_segment s)
 unfolding started_segment
 starts_timely s legal =
     let many = order_many s legal in

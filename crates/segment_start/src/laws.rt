@@ -8,14 +8,14 @@ ghost use Rattle.segment_file.specs.Segment.{SegmentValue, tree_rows};
 ghost use Rattle.segment_file.specs.Legal.{IsLegal};
 ghost use Rattle.frame_pass.specs.SlaveState.{Timing, width};
 ghost use Rattle.frame_pass.specs.SegmentState.{leaves_at};
-ghost use Rattle.frame_pass.specs.Invariants.{IsTimely, IsUnsent, after_frames};
+ghost use Rattle.frame_pass.specs.Invariants.{IsSoundSegment, IsUnsent, after_frames};
 ghost use Rattle.frame_pass.specs.ClockHistory.{HasHistory};
 ghost use Rattle.segment_start.specs.Start.{slave_of, started_segment};
 
 /// Nothing was sent yet, and every slave stands at true time 0, with 4096 bytes of registers and visits within the
 /// round trip. So time goes on from there (the law of `frame_pass` on times).
 pub fn starts_in_order()
-    ensures timely { (s : SegmentValue) → IsLegal s → IsTimely (started_segment s) }
+    ensures timely { (s : SegmentValue) → IsLegal s → IsSoundSegment (started_segment s) }
     ensures unsent { (s : SegmentValue) → IsUnsent (started_segment s) }
 {}
 
