@@ -7,3 +7,5 @@ pub mod Schedule
 pub mod History
 pub mod Units
 pub mod Plain
+pub mod Fixed
+pub mod AtPositions

@@ -1,8 +1,8 @@
 -- What holds of a segment all the time.
-use Rattle.std.specs.Prelude.{◌≡◌, ℕ, ◌≤◌, List, [], ◌∷◌, length, Option, IfSome}
+use Rattle.std.specs.Prelude.{◌≡◌, ℕ, ◌+◌, ◌*◌, ◌≤◌, List, [], ◌∷◌, length, map, Option, IfSome}
 use Rattle.std.specs.List.{AllByRecursion}
 use Rattle.ecat_frame.specs.FrameGrammar.{FrameValue}
-use Rattle.frame_pass.specs.SlaveState.{Visits, Timing, Slave}
+use Rattle.frame_pass.specs.SlaveState.{Visits, Timing, Slave, fixed_part}
 use Rattle.frame_pass.specs.SegmentState.{SegmentState, segment_step}
 
 -- the slave's present time, where it has one, is not past a time
@@ -27,10 +27,25 @@ pub record IsSound (round_trip limit : ℕ) (s : Slave) : Type 0 where
 abbrev pub IsSoundSegment : SegmentState → Type 0
 IsSoundSegment s = AllByRecursion (IsSound s.round_trip s.free) s.slaves
 
+-- what never changes of a segment
+pub record IsSameSegment (s t : SegmentState) : Type 0 where
+  pub slaves : map fixed_part t.slaves ≡ map fixed_part s.slaves
+  pub round_trip : t.round_trip ≡ s.round_trip
+  pub losses : t.losses ≡ s.losses
+
 -- the segment after these frames, each sent after the same wait
 unfoldable pub after_frames : ℕ → List FrameValue → SegmentState → SegmentState
 after_frames wait_ns [] s = s
 after_frames wait_ns (f ∷ fs) s = after_frames wait_ns fs (segment_step s wait_ns f).0
+
+-- the last sending was at its number times a period, and the next may leave a period later
+pub record IsOnTime (period_fs : ℕ) (s : SegmentState) : Type 0 where
+  pub last : s.last ≡ s.sent * period_fs
+  pub free : s.free ≤ s.last + period_fs
+
+-- each sending was numbered as a commission or as a drift frame
+abbrev pub IsNumbered : SegmentState → Type 0
+IsNumbered s = s.commission + s.drift ≡ s.sent
 
 -- nothing was sent, and nothing given to finish
 pub record IsUnsent (s : SegmentState) : Type 0 where

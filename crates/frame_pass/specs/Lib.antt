@@ -6,6 +6,7 @@ pub mod DatagramAtSlave
 pub mod Advancing
 pub mod FramePass
 pub mod SegmentState
+pub mod Reach
 pub mod Replies
 pub mod Invariants
 pub mod ClockHistory

@@ -1,9 +1,10 @@
 -- The told state of a slave.
-use Rattle.std.specs.Prelude.{ℕ, ◌%◌, ◌^◌, List, Option, Some, None, if◌then◌else◌}
+use Rattle.std.specs.Prelude.{ℕ, ◌%◌, ◌^◌, List, Option, Some, None, option_map, if◌then◌else◌}
 use Rattle.esc_regs.specs.declared.clock_kind.ClockKind.{ClockKind}
 use Rattle.esc_regs.specs.RegisterBytes.{number_at, with_number}
 use Rattle.esc_regs.specs.RegisterFile.{Registers}
 use Rattle.esc_regs.specs.RegisterTable.{is_wide}
+use Rattle.osc_clock.specs.Ticks.{Oscillator}
 use Rattle.local_clock.specs.Reading.{Clock}
 use Rattle.sync_units.specs.SyncRule.{Armed}
 use Rattle.sync_units.specs.KeptEdges.{Kept}
@@ -30,6 +31,22 @@ pub record Slave : Type 0 where
   pub visits : Visits
   pub registers : Registers
   pub timing : Option Timing
+
+-- What never changes of a slave: when a frame visits it, its kind, and of its clock the oscillator, and how many edges of
+-- each signal are kept.
+pub record FixedPart : Type 0 where
+  pub visits : Visits
+  pub kind : ClockKind
+  pub oscillator : Option Oscillator
+  pub keep : Option ℕ
+
+abbrev pub fixed_part : Slave → FixedPart
+fixed_part s = record {
+  visits = s.visits;
+  kind = s.registers.kind;
+  oscillator = option_map (λ m. m.clock.osc) s.timing;
+  keep = option_map (λ m. m.edges.keep) s.timing;
+}
 
 -- a measuring slave
 pub record Measuring : Type 0 where

@@ -1,5 +1,5 @@
 -- A segment before its first frame: the slaves of a file in frame order, at true time 0.
-use Rattle.std.specs.Prelude.{ℕ, List, [], map, Option, Some, None, slice_index_or}
+use Rattle.std.specs.Prelude.{ℕ, ◌/◌, List, [], map, Option, Some, None, slice_index_or}
 use Rattle.esc_regs.specs.declared.clock_kind.ClockKind.{ClockKind}
 use Rattle.esc_regs.specs.declared.clock_kind.ClockKind.TheVariants as kind
 use Rattle.esc_regs.specs.RegisterFile.{Registers}
@@ -30,7 +30,7 @@ visits_of rows r = record {
 
 -- the ticks to a correction: a 64th of the speed counter's start, 0x1000
 abbrev pub first_rate : ℕ
-first_rate = 64
+first_rate = 0x1000 / 64
 
 -- a clock that begins, and a unit that is not armed and will keep so many edges of each signal
 abbrev pub timing_of : ℕ → RowValue → Timing
