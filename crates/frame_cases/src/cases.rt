@@ -3,7 +3,9 @@ use crate::build::built;
 use crate::clock_words::{ahead, extended, moved, moved_back};
 use crate::links::exchanges;
 use crate::names::places_told;
+use crate::oscillators::{instants, ticks};
 use crate::read::{difference, read};
+use crate::station::clock;
 use crate::words::Words;
 use std::alloc::{AllocError, Global};
 
@@ -30,6 +32,9 @@ fn tell(alloc: Global, words: &mut Words<'_>, told: &mut String) -> Result<(), A
         "link" => exchanges(alloc, words, told),
         "file" => actions(alloc, words, told),
         "names" => places_told(told),
+        "ticks" => ticks(alloc, words, told),
+        "instants" => instants(alloc, words, told),
+        "clock" => clock(alloc, words, told),
         "moved" => moved(words, told),
         "moved_back" => moved_back(words, told),
         "ahead" => ahead(words, told),

@@ -1,10 +1,10 @@
-//! Frames, links, registers and clock words over a table of cases, one a line.
+//! Frames, links, registers, clock words and clocks over a table of cases, one a line.
 //!
-//! A case is a word that says what is asked, and then words, which end at a space or a colon. Bytes are
+//! A case is a word that says what is asked, and then words, which end at a space, a colon or a comma. Bytes are
 //! hexadecimal digits, or the same ones a number of times, as `07*1486`, or `-` where there are none.
 //! Addresses, ADP, ADO and working counters are hexadecimal digits, all other numbers decimal. The stored
-//! table and its stored answers, which were worked out by hand, by `tools/register_cases.py` or by
-//! `tools/frame_cases.py`, show that the definitions are the ones that are meant.
+//! table and its stored answers, which were worked out by hand or by `tools/frame_cases.py`,
+//! `tools/register_cases.py` and `tools/clock_cases.py`, show that the definitions are the ones that are meant.
 //!
 //! - `read BYTES`: the frame that these bytes are, or why they are none.
 //! - `build COMMAND:INDEX:ADP:ADO:BYTES .. / CHANGE ..`: what each datagram of a builder is answered, and how
@@ -21,6 +21,13 @@
 //! - `moved_back WIDTH TIME NS`: the same, back.
 //! - `ahead WIDTH TIME TIME`: how far the first word is ahead.
 //! - `extend LOW TIME`: the low half made a time near another one.
+//! - `ticks PHASE PERIOD RATES T ..`: how many ticks of an oscillator there are at or before each time. The
+//!   phase and the period are in fs, and the rates as `10:10001000,50:9999000`; where there are none, `-` is for
+//!   `Osc::new` and `none` for `Osc::with_rates`.
+//! - `instants PHASE PERIOD RATES TICK ..`: when each tick is.
+//! - `clock WIDTH PHASE PERIOD RATES START G KEEP ACTION ..`: a clock of 32 or 64 bits that starts so, with a
+//!   SYNC unit that is not armed and a list that keeps so many edges, and then what is done with them, with
+//!   a word for each action (`station.rt`).
 //! - A line that begins with `#`: the line itself.
 //! - Any other line: `unread`.
 #![tactic(auto)]
@@ -31,7 +38,9 @@ mod cases;
 mod clock_words;
 mod links;
 mod names;
+mod oscillators;
 mod read;
+mod station;
 mod words;
 
 use cases::answer;

@@ -2,7 +2,7 @@ ghost use Rattle.std.specs.Prelude.{◌≤◌};
 
 use std::alloc::{AllocError, Global};
 
-/// A case that is read word by word. A word ends at a space or a colon.
+/// A case that is read word by word. A word ends at a space, a colon or a comma.
 #[derive(Drop)]
 pub(crate) struct Words<'a> {
     rest: &'a str,
@@ -19,9 +19,24 @@ impl<'a> Words<'a> {
 
     /// The next word, which is empty at the end of the case.
     pub(crate) fn next(&mut self) -> &'a str {
-        let (word, rest) = self.rest.split_once([' ', ':']).unwrap_or((self.rest, ""));
+        let (word, rest) = self
+            .rest
+            .split_once([' ', ':', ','])
+            .unwrap_or((self.rest, ""));
         self.rest = rest;
         word
+    }
+
+    /// The words up to the next space.
+    pub(crate) fn next_group(&mut self) -> &'a str {
+        let (group, rest) = self.rest.split_once(' ').unwrap_or((self.rest, ""));
+        self.rest = rest;
+        group
+    }
+
+    /// Leaves all words that are left unread.
+    pub(crate) fn skip_all(&mut self) {
+        self.rest = "";
     }
 
     /// A bound on the number of words that are left.
@@ -60,6 +75,17 @@ impl<'a> Words<'a> {
     /// A number of 16 bits in hexadecimal digits. Any other word is refused.
     pub(crate) fn digits(&mut self) -> u16 {
         match u16::from_str_radix(self.next(), 16) {
+            Ok(number) => number,
+            Err(_) => {
+                self.refuse();
+                0
+            }
+        }
+    }
+
+    /// A difference of 32 bits. Any other word is refused.
+    pub(crate) fn difference(&mut self) -> i32 {
+        match self.next().parse() {
             Ok(number) => number,
             Err(_) => {
                 self.refuse();
