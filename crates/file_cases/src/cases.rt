@@ -30,8 +30,7 @@ impl Cases {
                 self.file = String::from_str(alloc, rest)?;
                 self.read(alloc, rest, &mut told)?;
             }
-            "edit" => self.read_changed(alloc, edited(alloc, &self.file, rest)?, &mut told)?,
-            "many" => self.read_changed(alloc, lengthened(alloc, &self.file, rest)?, &mut told)?,
+            "edit" | "many" => self.read_changed(alloc, (word, rest), &mut told)?,
             _ if self.is_segment => segments::tell(alloc, &self.file, (word, rest), &mut told)?,
             _ => shapes::tell(alloc, &self.file, (word, rest), &mut told)?,
         }
@@ -49,48 +48,55 @@ impl Cases {
     fn read_changed(
         &self,
         alloc: Global,
-        file: Option<String>,
+        (word, how): (&str, &str),
         told: &mut String,
     ) -> Result<(), AllocError> {
-        match file {
-            Some(file) => self.read(alloc, &file, told),
-            None => told.push_str(UNREAD),
+        let mut file = self.file.clone()?;
+        let is_changed = match word {
+            "edit" => edit(alloc, &mut file, how)?,
+            _ => lengthen(alloc, &mut file, how)?,
+        };
+        if is_changed {
+            self.read(alloc, &file, told)
+        } else {
+            told.push_str(UNREAD)
         }
     }
 }
 
-// The file with each second text in place of the one before it, where it has these.
-fn edited(alloc: Global, file: &str, edits: &str) -> Result<Option<String>, AllocError> {
-    let mut file = String::from_str(alloc, file)?;
+// Puts each second text in place of the one before it; false where the file lacks one of these.
+fn edit(alloc: Global, file: &mut String, edits: &str) -> Result<bool, AllocError> {
     let mut rest = edits;
     for _edit in 0..edits.len() {
         let Some((old, after)) = rest.split_once('|') else {
-            return Ok(None);
+            return Ok(false);
         };
         if !file.contains(old) {
-            return Ok(None);
+            return Ok(false);
         }
         let (new, later) = after.split_once('|').unwrap_or((after, ""));
-        file = file.replacen(alloc, old, new, 1)?;
+        *file = file.replacen(alloc, old, new, 1)?;
         if later.is_empty() {
-            return Ok(Some(file));
+            return Ok(true);
         }
         rest = later;
     }
-    Ok(None)
+    Ok(false)
 }
 
-// The file with zeros behind a text, where it has this.
-fn lengthened(alloc: Global, file: &str, how: &str) -> Result<Option<String>, AllocError> {
+// Puts zeros behind a text; false where the file lacks this.
+fn lengthen(alloc: Global, file: &mut String, how: &str) -> Result<bool, AllocError> {
     let Some((count, text)) = how.split_once(' ') else {
-        return Ok(None);
+        return Ok(false);
     };
     let Ok(count) = count.parse::<u16>() else {
-        return Ok(None);
+        return Ok(false);
     };
-    let Some((before, after)) = file.split_once(text) else {
-        return Ok(None);
-    };
+    if !file.contains(text) {
+        return Ok(false);
+    }
     let zeros = "0,".repeat(alloc, usize::from(count))?;
-    Ok(Some(format!(in alloc; "{before}{text}{zeros}{after}")?))
+    let longer = format!(in alloc; "{text}{zeros}")?;
+    *file = file.replacen(alloc, text, &longer, 1)?;
+    Ok(true)
 }

@@ -115,10 +115,14 @@ impl<'a> Words<'a> {
             return Ok(Vec::new(alloc));
         }
         let (digits, times) = word.split_once('*').unwrap_or((word, "1"));
-        let digits = digits.repeat(alloc, usize::from(times.parse::<u16>().unwrap_or(0)))?;
+        let Ok(times) = times.parse::<u16>() else {
+            self.refuse();
+            return Ok(Vec::new(alloc));
+        };
+        let digits = digits.repeat(alloc, usize::from(times))?;
         match hex::decode(alloc, &digits) {
-            Ok(bytes) => Ok(bytes),
-            Err(_) => {
+            Ok(bytes) if !word.is_empty() => Ok(bytes),
+            _ => {
                 self.refuse();
                 Ok(Vec::new(alloc))
             }
