@@ -5,27 +5,30 @@ use wrap_time::{ClockWord, T32, T64, extend};
 /// The word of a time that is moved on: its number, its low half, and how far it came.
 pub(crate) fn moved(words: &mut Words<'_>, told: &mut String) -> Result<(), AllocError> {
     let (is_wide, time, ns) = question(words);
-    match is_wide {
-        false => moved_told(T32::cut(time), T32::cut(time).add(ns), told),
-        true => moved_told(T64::cut(time), T64::cut(time).add(ns), told),
+    if is_wide {
+        moved_told(T64::cut(time), T64::cut(time).add(ns), told)
+    } else {
+        moved_told(T32::cut(time), T32::cut(time).add(ns), told)
     }
 }
 
 /// The same for a time that is moved back.
 pub(crate) fn moved_back(words: &mut Words<'_>, told: &mut String) -> Result<(), AllocError> {
     let (is_wide, time, ns) = question(words);
-    match is_wide {
-        false => moved_told(T32::cut(time), T32::cut(time).sub(ns), told),
-        true => moved_told(T64::cut(time), T64::cut(time).sub(ns), told),
+    if is_wide {
+        moved_told(T64::cut(time), T64::cut(time).sub(ns), told)
+    } else {
+        moved_told(T32::cut(time), T32::cut(time).sub(ns), told)
     }
 }
 
 /// How far the word of a time is ahead of that of another one.
 pub(crate) fn ahead(words: &mut Words<'_>, told: &mut String) -> Result<(), AllocError> {
     let (is_wide, time, other) = question(words);
-    match is_wide {
-        false => write!(told, "{}", T32::cut(time).diff(T32::cut(other))),
-        true => write!(told, "{}", T64::cut(time).diff(T64::cut(other))),
+    if is_wide {
+        write!(told, "{}", T64::cut(time).diff(T64::cut(other)))
+    } else {
+        write!(told, "{}", T32::cut(time).diff(T32::cut(other)))
     }
 }
 
