@@ -5,7 +5,6 @@ use Rattle.cable_tree.specs.declared.port.Port.{Port}
 use Rattle.cable_tree.specs.declared.port.Port.TheVariants.{P1, P2, P3}
 use Rattle.esc_regs.specs.declared.clock_kind.ClockKind.{ClockKind}
 use Rattle.frame_pass.specs.SlaveState.{Visits, Timing, Measuring, Slave, width}
-use Rattle.segment_shape.specs.Slaves.{has_clock}
 use Rattle.sync_units.specs.declared.edge.Edge.{Edge}
 use Rattle.esc_regs.specs.RegisterFile.{Registers}
 use Rattle.frame_pass.specs.DatagramTable as table
@@ -52,10 +51,6 @@ back P3 v = v.back3
 -- the edges that a slave keeps; a clockless one has none
 abbrev pub edges_kept : Slave → List Edge
 edges_kept s = option_map_or (λ t. t.edges.edges) s.timing []
-
--- the slave is a clock at true time 0
-abbrev pub StandsAtStart : Slave → Type 0
-StandsAtStart s = (has_clock s.registers.kind ≡ true) × IfSome s.timing (λ t. t.clock.instant ≡ 0)
 
 -- how many slaves a frame reaches: all (None), or so many
 abbrev pub reach_of : Option ℕ → List Slave → ℕ

@@ -3,11 +3,10 @@ ghost use Rattle.ecat_frame.specs.FrameGrammar.{IsFrame};
 ghost use Rattle.ecat_link.specs.Exchanges.{back_of};
 ghost use Rattle.esc_regs.specs.RegisterAccess.{is_refused};
 ghost use Rattle.segment_shape.specs.Losses.{loss_at};
-ghost use Rattle.segment_shape.specs.Slaves.{has_clock};
 ghost use Rattle.frame_pass.specs.LiveRegisters.{read_of};
 ghost use Rattle.frame_pass.specs.SegmentState.{phase_of, number_of, numbered, leaving, leaves_at, carried, segment_step, finished, expected_at};
 ghost use Rattle.segment_start.specs.Start.{started_segment};
-ghost use Rattle.wire_sim.specs.Seen.{edges_kept, StandsAtStart};
+ghost use Rattle.wire_sim.specs.Seen.{edges_kept};
 
 use crate::build::{losses, slaves};
 use crate::pass::{advance_all, carry_all, expect_at};
@@ -73,6 +72,13 @@ impl Wire {
             last: 0,
             free: 0,
         })
+    }
+
+    /// The number of slaves.
+    pub fn slaves(&self) -> usize
+        ensures { result ≡ length self.now.slaves }
+    {
+        self.slaves.len()
     }
 
     /// The number of frames that were sent, lost ones too.
@@ -142,12 +148,11 @@ impl Wire {
         self.free = self.free.max(t);
     }
 
-    /// An event of latch input 0 comes at the slave at this position at the true time `t`, in fs.
+    /// An event of latch input 0 comes at the slave at this position at the true time `t`, in fs. Call it before
+    /// the first frame: an event whose tick is at or before the slave's present time is never stamped.
     #[tactic(auto, unfolding(frame_pass::specs::SegmentState::expected_at))]
     pub fn expect_event(&mut self, position: u16, t: u64)
-        requires unsent { self.old.sent ≡ 0 }
-        requires within { position < length self.old.slaves }
-        requires clock { IfSome (slice_get self.old.slaves position) StandsAtStart }
+        requires { position < length self.old.slaves }
         ensures { self.new ≡ expected_at position t self.old }
     {
         expect_at(&mut self.slaves, position, t);
