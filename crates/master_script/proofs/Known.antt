@@ -12,8 +12,7 @@ use Rattle.master_script.specs.Config.{ConfigValue, settle_frames}
 use Rattle.master_script.specs.Judged.{judged}
 use Rattle.master_script.specs.Kept.{is_times}
 use Rattle.master_script.specs.Progress.{Phase, Commissioning, Settling, Arming, Running, Progress, progress, beginning, later_steps, after, asked, answered, noted, done, turned, planned, missed, counted, moved, settling, settled_by, timed, brought, running}
-use Rattle.master_script.specs.Slaves.{is_measuring, measuring, clocks, judgement}
-use Rattle.master_script.specs.declared.slave.SlaveWords.{SlaveWords}
+use Rattle.master_script.specs.Slaves.{SlaveWords, is_measuring, measuring, clocks, judgement}
 use Rattle.master_script.specs.Steps.{learned, expected, identified, latch_in}
 use Rattle.master_script.specs.Words.{Words, wide_at}
 use Rattle.master_script.specs.declared.step.Refusal.{Refusal}

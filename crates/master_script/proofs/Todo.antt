@@ -7,8 +7,7 @@ use Rattle.ecat_frame.specs.FrameGrammar.{FrameValue}
 use Rattle.dc_bounds.specs.Weight.{flag}
 use Rattle.dc_delay.specs.ShapeRows.{positions}
 use Rattle.master_script.specs.Progress.{later_steps, arm_steps}
-use Rattle.master_script.specs.Slaves.{is_measuring, is_clock, measuring, clocks}
-use Rattle.master_script.specs.declared.slave.SlaveWords.{SlaveWords}
+use Rattle.master_script.specs.Slaves.{SlaveWords, is_measuring, is_clock, measuring, clocks}
 use Rattle.master_script.specs.Steps.{learned, identified}
 use Rattle.master_script.specs.Words.{Words}
 use Rattle.master_script.specs.declared.step.Step.{Step}

@@ -16,8 +16,7 @@ use Rattle.master_script.specs.Config.{ConfigValue}
 use Rattle.master_script.specs.Judged.{judged}
 use Rattle.master_script.specs.ListedTree.{walk, tree_of, behind}
 use Rattle.master_script.specs.Progress.{Phase, Commissioning, Settling, Arming, Running, Progress, progress, beginning, later_steps, arm_steps, after, asked, answered, noted, done, turned, planned, counted, moved, settling, settled_by, timed, brought, running}
-use Rattle.master_script.specs.Slaves.{is_measuring, is_clock, measuring, clocks, judgement, judged_tree, judged_clocks, tree_told}
-use Rattle.master_script.specs.declared.slave.SlaveWords.{SlaveWords}
+use Rattle.master_script.specs.Slaves.{SlaveWords, is_measuring, is_clock, measuring, clocks, judgement, judged_tree, judged_clocks, tree_told}
 use Rattle.master_script.specs.Steps.{expected}
 use Rattle.master_script.specs.Words.{hung_or_none}
 use Rattle.master_script.specs.declared.step.Refusal.{Refusal}

@@ -6,8 +6,7 @@ use Rattle.wrap_time.specs.Extended.{extended}
 use Rattle.dc_delay.specs.ShapeRows.{positions}
 use Rattle.master_script.specs.Config.{ConfigValue, slaves, settle_frames}
 use Rattle.master_script.specs.Judged.{judged}
-use Rattle.master_script.specs.Slaves.{measuring, clocks, judgement}
-use Rattle.master_script.specs.declared.slave.SlaveWords.{SlaveWords}
+use Rattle.master_script.specs.Slaves.{SlaveWords, measuring, clocks, judgement}
 use Rattle.master_script.specs.Steps.{expected, learned, low_in}
 use Rattle.master_script.specs.Words.{Words}
 use Rattle.master_script.specs.declared.step.Refusal.{Refusal}

@@ -7,9 +7,14 @@ use Rattle.dc_bounds.specs.Weight.{flag}
 use Rattle.dc_delay.specs.Refusals.{first_timed, first_unmeasurable}
 use Rattle.dc_delay.specs.ShapeRows.{positions}
 use Rattle.master_script.specs.ListedTree.{tree_of}
-use Rattle.master_script.specs.declared.slave.SlaveWords.{SlaveWords}
 use Rattle.master_script.specs.declared.step.Refusal.{Refusal}
 use Rattle.master_script.specs.declared.step.Refusal.TheVariants.{Topology, NoReference, Unmeasurable}
+
+-- the features and the DL status of a slave, and the counter of the read of its system time
+pub record SlaveWords : Type 0 where
+  pub features : ℕ
+  pub status : ℕ
+  pub fourth : ℕ
 
 -- a slave measures where it has distributed clocks
 abbrev pub is_measuring : SlaveWords → Bool

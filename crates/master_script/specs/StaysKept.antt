@@ -2,7 +2,7 @@
 use Rattle.std.specs.Prelude.{◌≡◌, ◌≢◌, ℕ, ◌<◌, ◌≤◌, List, [], ◌++◌, Some, None, slice_index_or}
 use Rattle.dc_delay.specs.declared.latch.Latch.{Latch}
 use Rattle.master_script.specs.Kept.{Kept}
-use Rattle.master_script.specs.declared.slave.SlaveWords.{SlaveWords}
+use Rattle.master_script.specs.Slaves.{SlaveWords}
 use Rattle.master_script.specs.declared.step.Refusal.{Refusal}
 
 -- Between what is kept and what is kept later counts never fall; slaves are only added; the refusal, the reference, the

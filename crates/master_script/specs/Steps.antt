@@ -7,8 +7,7 @@ use Rattle.ecat_frame.specs.declared.command.Command.TheVariants.{Nop}
 use Rattle.dc_delay.specs.declared.latch.Latch.{Latch}
 use Rattle.master_script.specs.Config.{ConfigValue, slaves, plan_at}
 use Rattle.master_script.specs.Frames.{asks, width, count_datagrams, identify_datagrams, rate_datagrams, latch_datagrams, times_datagrams, set_datagrams, drift_datagrams, arm_datagrams}
-use Rattle.master_script.specs.Slaves.{is_measuring, measuring, clocks}
-use Rattle.master_script.specs.declared.slave.SlaveWords.{SlaveWords}
+use Rattle.master_script.specs.Slaves.{SlaveWords, is_measuring, measuring, clocks}
 use Rattle.master_script.specs.Words.{Words, wide_at, reference_of, offset_at, delay_at, start_at}
 use Rattle.master_script.specs.declared.step.Step.{Step}
 use Rattle.master_script.specs.declared.step.Step.TheVariants.{Count, Identify, Rate, Latch as LatchStep, Times, Set, Settle, Drift, Arm}

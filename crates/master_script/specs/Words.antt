@@ -10,8 +10,7 @@ use Rattle.dc_delay.specs.ShapeRows.{positions, rows_of}
 use Rattle.master_script.specs.Config.{ConfigValue, start_of}
 use Rattle.master_script.specs.Frames.{width}
 use Rattle.master_script.specs.Offset.{offset}
-use Rattle.master_script.specs.Slaves.{is_clock, is_wide, clocks, tree_told}
-use Rattle.master_script.specs.declared.slave.SlaveWords.{SlaveWords}
+use Rattle.master_script.specs.Slaves.{SlaveWords, is_clock, is_wide, clocks, tree_told}
 
 -- What Identify told of each slave so far, in frame order; the reference, once the slaves are judged; by position what Times
 -- told; the number of the sending of Latch that came back, 0 before; and the time of the reference in the last settle frame
