@@ -1,11 +1,9 @@
-#!/usr/bin/env python3
-"""Writes the table of crates/clock_cases and its right answers, its `stdin` and `stdout`.
+"""The cases of oscillators, clocks and SYNC units for tools/frame_cases.py, and their right answers.
 
 A case by hand has its answer beside it. All others, and those by hand that are not far ahead, are worked out
 here from docs/DEFINITIONS.md, tick by tick: "Ticks", "The local clock", "SYNC units". What a line asks is said
-in crates/clock_cases/src.
+in crates/frame_cases/src.
 """
-import pathlib
 import random
 
 TICK = 10_000_000
@@ -344,7 +342,47 @@ def any_units(pick):
         case(f"clock {bits} {osc} {start} {g} {keep} {' '.join(actions)} list")
 
 
-def main():
+def half_of_the_range():
+    title("the first tick at which a value half of the range ahead is reached; one farther ahead lies behind")
+    for osc, tick in [(f"{TICK} {TICK} -", TICK), ("1 1 -", 1)]:
+        for bits, half in ((32, 2**31), (64, 2**63)):
+            for v in (half + 8, half + 9, half + 10):
+                at = -(-v // 10) * tick
+                hand(f"clock {bits} {osc} 0 1 0 first:{v}", f"clock {at if at <= LAST else 'none'}", far=True)
+            hand(f"clock {bits} {osc} 0 1 0 first:{half + 11}", f"clock {tick}")
+            hand(f"clock {bits} {osc} 0 1 0 first:{half + 12}", f"clock {tick}")
+    title("differences at the ends of their range, worked off a tick at a time")
+    for bits in (32, 64):
+        for difference in (2**31 - 1, 2**31 - 2, -(2**31), -(2**31) + 1):
+            for g in (1, 2):
+                steps = " ".join(f"advance:{TICK * (k + 1)}" for k in range(4))
+                case(f"clock {bits} {TICK} {TICK} - {2**31 - 20} {g} 0 receive:{difference} {steps} first:{2**31} reset:1 advance:{TICK * 5}")
+    title("a unit whose due value is half of the range ahead of the copy, one nearer and one farther")
+    for bits, half in ((32, 2**31), (64, 2**63)):
+        for reading in (0, 2**bits - 15, half - 10):
+            for apart in (-2, -1, 0, 1, 2):
+                start = (reading + 10 + half + apart) % 2**bits
+                for sync1 in ("-", 1, 2):
+                    case(f"clock {bits} {TICK} {TICK} - {reading} 1 3 arm:{start}:1000:{sync1} edges:{TICK * 4}:0 list due")
+                offset = (half + apart) % 2**bits
+                case(f"clock {bits} {TICK} {TICK} - {reading} 1 3 arm:{(reading + 10) % 2**bits}:1000:- edges:{TICK * 4}:{offset} list due")
+    title("a cycle of half of the range, less and more")
+    for bits in (32, 64):
+        for cycle in (2**31 - 1, 2**31, 2**31 + 1, 2**31 + 9, 2**31 + 10, 2**31 + 11, 2**32 - 1):
+            case(f"clock {bits} {TICK} {TICK} - 0 1 3 arm:20:{cycle}:{cycle - 1} edges:{TICK * 4}:0 list due")
+    title("a due value that is half of the range ahead has its edge when the copy comes to it")
+    for v in (2**31 + 8, 2**31 + 9, 2**31 + 10):
+        at = 214_748_366 * TICK
+        hand(f"clock 32 {TICK} {TICK} - 0 1 3 arm:{v}:1000:- edges:{at - 1}:0 list edges:{at}:0 list due",
+             f"clock - - empty - 0.0@{at} {v + 1000}", far=True)
+    for v in (2**63 + 8, 2**63 + 9, 2**63 + 10):
+        at = -(-v // 10)
+        hand(f"clock 64 1 1 - 0 1 3 arm:{v}:1000:- edges:{at - 1}:0 list edges:{at}:0 list due",
+             f"clock - - empty - 0.0@{at} {v + 1000}", far=True)
+
+
+def table():
+    """Each case and its answer."""
     pick = random.Random(1588)
     oscillators()
     clocks()
@@ -352,9 +390,5 @@ def main():
     any_oscillators(pick)
     any_clocks(pick)
     any_units(pick)
-    crate = pathlib.Path(__file__).parent.parent / "crates" / "clock_cases"
-    for name, side in [("stdin", 0), ("stdout", 1)]:
-        (crate / name).write_text("".join(row[side] + "\n" for row in TABLE))
-
-
-main()
+    half_of_the_range()
+    return TABLE

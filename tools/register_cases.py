@@ -1,11 +1,8 @@
-#!/usr/bin/env python3
-"""Writes the table of crates/register_cases, or its right answers.
+"""The cases of registers and clock words for tools/frame_cases.py, and their right answers.
 
-register_cases.py stdin    the cases
-register_cases.py stdout   the answers, worked out here from docs/DEFINITIONS.md: "Wrapped time", "Register access"
+The answers are worked out here from docs/DEFINITIONS.md: "Wrapped time", "Register access".
 """
 import random
-import sys
 
 # address, bytes, number at the start, what a write does
 TABLE = [
@@ -89,7 +86,7 @@ class Slave:
     def act(self, word):
         what, *rest = word.split(":")
         if what == "write":
-            return self.write(int(rest[0], 16), bytes.fromhex(rest[1]))
+            return self.write(int(rest[0], 16), bytes.fromhex(rest[1].strip("-")))
         if what == "read":
             return self.read(int(rest[0], 16), int(rest[1]))
         if what == "show":
@@ -120,7 +117,7 @@ def answer(line):
         start = time % (1 << width)
         end = (start + (ns if words[0] == "moved" else -ns)) % (1 << width)
         return "%d %d %d" % (end, end % (1 << 32), signed(end - start, width))
-    if words[0] == "differ":
+    if words[0] == "ahead":
         width, time, other = map(int, words[1:])
         return str(signed(time - other, width))
     if words[0] == "extend":
@@ -145,7 +142,7 @@ def accesses_by_hand():
         ("c64", 0x09A2, "01" * 7), ("c64", 0x09AE, "01" * 10), ("c64", 0x0010, ""),
         ("c64", 0x0FFF, "0707"), ("c64", 0xFFFF, "07"),
     ]:
-        yield "file %s write:%04x:%s read:%04x:%d" % (kind, addr, data, addr, len(data) // 2)
+        yield "file %s write:%04x:%s read:%04x:%d" % (kind, addr, data or "-", addr, len(data) // 2)
     yield "# registers from inside the slave"
     yield ("file c64 set:time:1234605616436508552 set:latched:1 write:0928:ffffff7f get:time get:delay"
            " get:latched get:station get:offset get:activation read:0912:3")
@@ -189,7 +186,7 @@ def accesses_at_the_edges(dice):
         for addr, count in [(0x0000, 0), (0x0900, 0), (0x1000, 0), (0xFFFF, 0), (0x0FFF, 1), (0x0FFF, 2),
                             (0x1000, 1), (0xFFFF, 2), (0x0FF8, 8), (0x0FF9, 8), (0x08FF, 1), (0x08FF, 2),
                             (0x09FF, 1), (0x09FF, 2), (0x0A00, 1)]:
-            yield "file %s write:%04x:%s read:%04x:%d" % (kind, addr, "5a" * count, addr, count)
+            yield "file %s write:%04x:%s read:%04x:%d" % (kind, addr, "5a" * count or "-", addr, count)
     yield "# long accesses"
     for kind in KINDS:
         data = bytes(dice.randrange(256) for _ in range(2304)).hex()
@@ -236,7 +233,7 @@ def clock_words(dice):
     yield "# times that wrap"
     for line in [
         "moved 32 4294967290 16", "moved 64 4294967290 16", "moved 64 18446744073709551615 3",
-        "moved 32 5 2147483648", "differ 32 4294967290 10",
+        "moved 32 5 2147483648", "ahead 32 4294967290 10",
         "extend 10 4294967290", "extend 4294967290 4294967306", "extend 123 1000000000000",
         "extend 3 18446744073709551600", "extend 4294967295 0",
     ]:
@@ -249,7 +246,7 @@ def clock_words(dice):
                 yield "moved %d %d %d" % (width, time, ns)
                 yield "moved_back %d %d %d" % (width, time, ns)
             for other in edges[::2]:
-                yield "differ %d %d %d" % (width, time, other)
+                yield "ahead %d %d %d" % (width, time, other)
     for low in (0, 1, 2**31 - 1, 2**31, 2**32 - 1):
         for time in edges:
             yield "extend %d %d" % (low, time)
@@ -264,8 +261,3 @@ def cases():
     yield from accesses_one_after_the_other(dice)
     yield from live_reads(dice)
     yield from clock_words(dice)
-
-
-if __name__ == "__main__":
-    for case in cases():
-        print(case if sys.argv[1] == "stdin" else answer(case))

@@ -3,9 +3,9 @@
 
 shares.py
 
-Looks at the checker's processes every half second until it is told to end (SIGTERM), and then prints a row for each crate: the check of
-the crate, that of its tests, its must-fail edits, and all of them. The gate (.ci/run) runs it beside `rt ci`. What a process does
-behind the last look at it is not counted, so the sums are short by a percent or two; what runs beside the gate is counted with it.
+Looks every half second at the checker's processes that the shell which began it has begun, until it is told to end (SIGTERM), and then
+prints a row for each crate: the check of the crate, that of its tests, its must-fail edits, and all of them. The gate (.ci/run) runs it
+beside `rt ci`. What a process does behind the last look at it is not counted, so the sums are short by a percent or two.
 """
 import os, signal, sys, time
 
@@ -17,16 +17,30 @@ class Told(Exception):
     """The signal to end."""
 
 
-def checker(pid):
-    """The process, its crate and kind of work, and its seconds, where it is one of the checker's."""
+def stat_of(pid):
+    """The fields of a process behind its name, its parent the second of them."""
+    stat = open(f'/proc/{pid}/stat').read()
+    return stat[stat.rindex(')') + 2:].split()
+
+
+def is_below(pid, ancestor):
+    """Whether the ancestor, or a process that it began, began the process."""
+    while int(pid) > 1:
+        pid = stat_of(pid)[1]
+        if int(pid) == ancestor:
+            return True
+    return False
+
+
+def checker(pid, gate):
+    """The process, its crate and kind of work, and its seconds, where it is one of the gate's checks."""
     try:
         words = open(f'/proc/{pid}/cmdline').read().split('\0')
-        if os.path.basename(words[0]) != 'rattle' or '--crate-name' not in words:
+        if os.path.basename(words[0]) != 'rattle' or '--crate-name' not in words or not is_below(pid, gate):
             return None
         crate = words[words.index('--crate-name') + 1]
         where = os.readlink(f'/proc/{pid}/cwd')
-        stat = open(f'/proc/{pid}/stat').read()
-        fields = stat[stat.rindex(')') + 2:].split()
+        fields = stat_of(pid)
         start, seconds = fields[19], (int(fields[11]) + int(fields[12])) / TICKS
     except (OSError, ValueError, IndexError):
         return None
@@ -36,9 +50,10 @@ def checker(pid):
 
 def watch(seen):
     """Notes the seconds of each process until the signal comes."""
+    gate = os.getppid()
     while True:
         for pid in filter(str.isdigit, os.listdir('/proc')):
-            found = checker(pid)
+            found = checker(pid, gate)
             if found:
                 seen[found[0]] = found[1]
         time.sleep(0.5)

@@ -1,6 +1,7 @@
 ghost use Rattle.std.specs.Prelude.{◌≡◌, ◌⊎◌, ◌<◌, ◌≤◌, length, IfOk, IfErr, IsOk, Ok, Err, slice_index};
 ghost use Rattle.cable_tree.specs.FrameOrder.{order};
 ghost use Rattle.cable_tree.specs.PathSums.{span, arrive, port_time, round_trip};
+ghost use Rattle.cable_tree.specs.Positions.{position_of};
 ghost use Rattle.cable_tree.specs.Refusals.{IsRefused, MayAnswer};
 ghost use Rattle.cable_tree.specs.Row.{above};
 ghost use Rattle.cable_tree.specs.Segment.{IsSegment, IsTree};
@@ -96,6 +97,7 @@ impl Tree {
         requires { row < length self.now }
         ensures within { result < length (order self.now) }
         ensures is { slice_index (order self.now) result ≡ row }
+        ensures position { result ≡ position_of self.now row }
     {
         self.places[usize::from(row)]
     }

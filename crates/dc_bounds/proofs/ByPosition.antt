@@ -14,7 +14,7 @@ use Rattle.cable_tree.specs.FrameOrder.{child, order}
 use Rattle.cable_tree.proofs.Levels.{some_same}
 use Rattle.cable_tree.proofs.Rising.{order_within}
 use Rattle.dc_bounds.specs.Weight.{measuring_from, measuring_within, measuring_parent, is_connected, has_earlier, has_later, hop_weight, hops_by, hops_within, is_leaf, weight_below, reaches, is_over, higher_or, meeting_within, meeting, reference, weight_to, weight}
-use Rattle.dc_bounds.specs.Measurable.{children, branches, leads_from, is_measured_within, is_measurable, unmeasurable}
+use Rattle.dc_bounds.specs.Measurable.{branches, leads_from, is_measured_within, is_measurable, unmeasurable}
 use Rattle.cable_tree.specs.Positions.{IsByPosition, position_of, by_position, renumbered}
 use Rattle.cable_tree.proofs.Renumbered as same
 

@@ -8,4 +8,5 @@ pub mod Leading
 pub mod Locking
 pub mod RunLength
 pub mod Weightless
+pub mod FirstClock
 pub mod Staying

@@ -1,11 +1,11 @@
 -- That the start lies ahead of every arming, and that a run lasts until the last edge.
-use Rattle.std.specs.Prelude.{◌≡◌, ℕ, ◌+◌, ◌*◌, ◌/◌, ◌<◌, ◌≤◌}
+use Rattle.std.specs.Prelude.{◌≡◌, ℕ, ◌+◌, ◌*◌, ◌/◌, ◌^◌, ◌<◌, ◌≤◌}
 use Rattle.std.proofs.Common.{arith}
-use Rattle.std.proofs.Math.Nat.{div-mul-le_self, mul-le-mul_right, div-lt_iff_lt-mul}
+use Rattle.std.proofs.Math.Nat.{div-mul-le_self, mul-le-mul_right, mul-le-mul, div-lt_iff_lt-mul}
 use Rattle.dc_bounds.specs.TickBounds.{tick_fs, tick_gap}
 use Rattle.dc_bounds.specs.TickFacts.{AreTicksOf}
 use Rattle.dc_bounds.specs.LockNumbers.{period_fs}
-use Rattle.dc_bounds.specs.RunNumbers.{lead_ns, start_ns, reach_ns, run_frames}
+use Rattle.dc_bounds.specs.RunNumbers.{lead_ns, start_ns, run_time_ns, run_frames}
 use Rattle.dc_bounds.proofs.Growth.{tick_gap_near}
 
 -- the next multiple is above
@@ -32,9 +32,9 @@ ahead ppm clocks m frame_ns l d k x ticks long short quarter =
 
 -- the frames of a run cover U, its thousandth and two periods
 pub frames_cover : (clocks m frame_ns cycle cycles : ℕ) → 1 ≤ frame_ns
-    → reach_ns clocks m frame_ns cycle cycles + reach_ns clocks m frame_ns cycle cycles / 1000 + 1 + 2 * frame_ns ≤ run_frames clocks m frame_ns cycle cycles * frame_ns
+    → run_time_ns clocks m frame_ns cycle cycles + run_time_ns clocks m frame_ns cycle cycles / 1000 + 1 + 2 * frame_ns ≤ run_frames clocks m frame_ns cycle cycles * frame_ns
 frames_cover clocks m frame_ns cycle cycles some =
-    let u = reach_ns clocks m frame_ns cycle cycles in
+    let u = run_time_ns clocks m frame_ns cycle cycles in
     let top = above_quotient (u + u / 1000) frame_ns some in
     whole (u + u / 1000) ((u + u / 1000) / frame_ns) frame_ns top
   where
@@ -43,9 +43,9 @@ frames_cover clocks m frame_ns cycle cycles some =
 
 pub long_enough : (ppm clocks m frame_ns cycle cycles k x : ℕ) → ppm ≤ 100 → 50000 ≤ frame_ns
     → AreTicksOf ppm ((run_frames clocks m frame_ns cycle cycles + 1) * period_fs frame_ns) k → 4 * x ≤ period_fs frame_ns
-    → 1000000 * reach_ns clocks m frame_ns cycle cycles + x ≤ tick_fs * k
+    → 1000000 * run_time_ns clocks m frame_ns cycle cycles + x ≤ tick_fs * k
 long_enough ppm clocks m frame_ns cycle cycles k x small long ticks quarter =
-    let u = reach_ns clocks m frame_ns cycle cycles in
+    let u = run_time_ns clocks m frame_ns cycle cycles in
     let frames = run_frames clocks m frame_ns cycle cycles in
     let length = (frames + 1) * period_fs frame_ns in
     enough u (u / 1000) (frames * frame_ns) frame_ns length k (tick_gap ppm length) x long (above_quotient u 1000 (omega arith))
@@ -57,7 +57,7 @@ long_enough ppm clocks m frame_ns cycle cycles k x small long ticks quarter =
 
 -- the last edge, with its shift
 pub last_edge : (r clocks m frame_ns cycle cycles shift k : ℕ) → shift + 2 ≤ 2 * cycle → k < cycles
-    → start_ns r (lead_ns clocks m frame_ns) cycle + shift + k * cycle + 2 ≤ r + reach_ns clocks m frame_ns cycle cycles
+    → start_ns r (lead_ns clocks m frame_ns) cycle + shift + k * cycle + 2 ≤ r + run_time_ns clocks m frame_ns cycle cycles
 last_edge r clocks m frame_ns cycle cycles shift k short early =
     let soon = start_soon r (lead_ns clocks m frame_ns) cycle in
     let edges : (k + 1) * cycle ≤ cycles * cycle = mul-le-mul_right cycle (omega (arith, early)) in
@@ -66,6 +66,20 @@ last_edge r clocks m frame_ns cycle cycles shift k short early =
     sum : (start r lead cycle shift k cycles : ℕ) → start ≤ r + lead + cycle → (k + 1) * cycle ≤ cycles * cycle → shift + 2 ≤ 2 * cycle
         → start + shift + k * cycle + 2 ≤ r + (lead + (cycles + 2) * cycle)
     sum start r lead cycle shift k cycles a b c = omega (arith, a, b, c)
+
+-- the start is no number past 63 bits, where the reference's time was that of the epoch at most 100,000 periods before
+pub start_fits : (ppm clocks m frame_ns cycle epoch l k : ℕ) → ppm ≤ 100 → clocks ≤ 256 → m ≤ 15 → frame_ns ≤ 10000000 → cycle ≤ 500000000
+    → epoch ≤ 4000000000000000000 → AreTicksOf ppm l k → l ≤ 100000 * period_fs frame_ns
+    → start_ns (epoch + 10 * k) (lead_ns clocks m frame_ns) cycle < 2 ^ 63
+start_fits ppm clocks m frame_ns cycle epoch l k small few_clocks few_losses short cycle_short old ticks early =
+    let many : 3 * clocks + m + 2 ≤ 785 = omega (arith, few_clocks, few_losses) in
+    let lead : (3 * clocks + m + 2) * frame_ns ≤ 785 * 10000000 = mul-le-mul many short in
+    sum (start_ns (epoch + 10 * k) (lead_ns clocks m frame_ns) cycle) epoch k (lead_ns clocks m frame_ns) cycle l (tick_gap ppm l)
+    (start_soon (epoch + 10 * k) (lead_ns clocks m frame_ns) cycle) old cycle_short ticks.gap.above (tick_gap_near ppm l small) (omega (arith, early, short)) lead
+  where
+    sum : (start epoch k lead cycle l g : ℕ) → start ≤ epoch + 10 * k + lead + cycle → epoch ≤ 4000000000000000000 → cycle ≤ 500000000 → tick_fs * k ≤ l + g
+        → 9999 * g ≤ l + 9999 * 10002000 → l ≤ 1000000000000000000 → lead ≤ 785 * 10000000 → start < 2 ^ 63
+    sum start epoch k lead cycle l g a b c d e f h = omega (arith, a, b, c, d, e, f, h)
 
 -- the first due value is near
 pub not_far : (r clocks m frame_ns cycle shift copy x : ℕ) → shift + 2 ≤ 2 * cycle → 1000000 * r ≤ 1000000 * copy + x → 4 * x ≤ period_fs frame_ns

@@ -6,13 +6,13 @@ abbrev pub lead_ns : ℕ → ℕ → ℕ → ℕ
 lead_ns clocks loss_run frame_ns = (3 * clocks + loss_run + 2) * frame_ns
 
 -- U: a time, from there on, that reaches past the last edge of every signal
-abbrev pub reach_ns : ℕ → ℕ → ℕ → ℕ → ℕ → ℕ
-reach_ns clocks loss_run frame_ns cycle_ns cycles = lead_ns clocks loss_run frame_ns + (cycles + 2) * cycle_ns
+abbrev pub run_time_ns : ℕ → ℕ → ℕ → ℕ → ℕ → ℕ
+run_time_ns clocks loss_run frame_ns cycle_ns cycles = lead_ns clocks loss_run frame_ns + (cycles + 2) * cycle_ns
 
 -- the frames that a run sends: those of U and of a thousandth of it, and three more
 abbrev pub run_frames : ℕ → ℕ → ℕ → ℕ → ℕ → ℕ
 run_frames clocks loss_run frame_ns cycle_ns cycles =
-    let u = reach_ns clocks loss_run frame_ns cycle_ns cycles in
+    let u = run_time_ns clocks loss_run frame_ns cycle_ns cycles in
     (u + u / 1000) / frame_ns + 3
 
 -- the start of the units, before it is cut to 64 bits: the first whole number of cycles behind r and the lead, where r

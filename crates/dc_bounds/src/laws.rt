@@ -1,16 +1,18 @@
 //! Laws over the definitions alone, for proofs of the layers above.
 
-ghost use Rattle.std.specs.Prelude.{◌≡◌, ◌↔◌, ℕ, suc, ◌+◌, ◌-◌, ◌*◌, ◌/◌, ◌<◌, ◌≤◌, min, ◌⊎◌, pos, ◌≤ℤ◌, Bool, Some, None, List, length};
+ghost use Rattle.std.specs.Prelude.{◌≡◌, ◌↔◌, ℕ, suc, ◌+◌, ◌-◌, ◌*◌, ◌/◌, ◌^◌, ◌<◌, ◌≤◌, min, ◌⊎◌, pos, ◌≤ℤ◌, Bool, true, Some, None, List, length};
+ghost use Rattle.std.specs.List.{All};
 ghost use Rattle.osc_clock.specs.Ticks.{Oscillator, IsRunning, ticks};
-ghost use Rattle.cable_tree.specs.Segment.{IsSegment};
-ghost use Rattle.cable_tree.specs.Row.{Row};
+ghost use Rattle.cable_tree.specs.PathSums.{arrive};
+ghost use Rattle.cable_tree.specs.Row.{Row, IsRow};
+ghost use Rattle.cable_tree.specs.Segment.{IsSegment, IsTree};
 ghost use Rattle.dc_bounds.specs.TickBounds.{tick_fs, tick_gap, count_gap, least_ticks, jump};
 ghost use Rattle.dc_bounds.specs.TickFacts.{AreTicksOf, IsNear, IsWithin};
 ghost use Rattle.dc_bounds.specs.LockNumbers.{lock_count, lock_falls, lock_step, period_fs, reach_fs, silence_fs, sure_fall, ticks_to_correction};
 ghost use Rattle.dc_bounds.specs.Weight.{reference, weight, weight_below};
 ghost use Rattle.dc_bounds.specs.DelayBound.{delay_bound};
 ghost use Rattle.dc_bounds.specs.CopyBound.{copy_bound, window};
-ghost use Rattle.dc_bounds.specs.RunNumbers.{lead_ns, reach_ns, run_frames, start_ns};
+ghost use Rattle.dc_bounds.specs.RunNumbers.{lead_ns, run_time_ns, run_frames, start_ns};
 
 /// The ticks in an interval that is open at its beginning and closed at its end, 10 ns each, are as far
 /// from its length as G and as H say, and their number is nmin or more: for every oscillator whose gaps
@@ -64,6 +66,14 @@ pub fn reference_has_no_weight()
     ensures bound { (ppm : ℕ) (rows : List Row) (measures timed : ℕ → Bool) (q r round_trip : ℕ) → reference rows timed ≡ Some q
         → (delay_bound ppm (weight rows measures timed r) round_trip ≡ 0) ↔ (r ≡ q) }
     ensures no_clock { (rows : List Row) (measures timed : ℕ → Bool) (r : ℕ) → reference rows timed ≡ None → weight rows measures timed r ≡ 0 }
+{}
+
+/// The reference is a slave of the tree, and a clock, and a frame arrives at no clock before it.
+pub fn reference_comes_first()
+    ensures clock { (rows : List Row) → IsTree rows → All IsRow rows → (timed : ℕ → Bool) (q : ℕ) → reference rows timed ≡ Some q
+        → (q < length rows) × (timed q ≡ true) }
+    ensures arrives { (rows : List Row) → IsTree rows → All IsRow rows → (timed : ℕ → Bool) (q : ℕ) → reference rows timed ≡ Some q
+        → (r : ℕ) → r < length rows → timed r ≡ true → arrive rows q ≤ arrive rows r }
 {}
 
 /// Where μ is above 0, the corrections that are sure in 1 to `loss_run` + 1 periods make up for the drift
@@ -145,7 +155,8 @@ pub fn edges_stay_near()
 /// ticks of the reference are those from the last time that came back to an arming, its copy at that
 /// instant, and x more, is below r and the lead (`ahead`); and the first due value of a signal is less
 /// than 2 s ahead of a copy that is at most x behind r, where a file keeps to what it may ask for
-/// (`not_far`).
+/// (`not_far`). The start fits 63 bits, where r is the epoch and the ticks of at most 100,000 periods, 10 ns
+/// each, and the numbers are those that a file may have (`fits`).
 pub fn start_lies_ahead()
     ensures after { (r lead cycle_ns : ℕ) → 1 ≤ cycle_ns → r + lead < start_ns r lead cycle_ns }
     ensures soon { (r lead cycle_ns : ℕ) → start_ns r lead cycle_ns ≤ r + lead + cycle_ns }
@@ -158,6 +169,10 @@ pub fn start_lies_ahead()
         → 1000000 * r ≤ 1000000 * copy + x → 4 * x ≤ period_fs frame_ns
         → lead_ns clocks loss_run frame_ns + 2 * frame_ns + 3 * cycle_ns < 2000000000
         → start_ns r (lead_ns clocks loss_run frame_ns) cycle_ns + shift < copy + 2000000000 }
+    ensures fits { (ppm clocks loss_run frame_ns cycle_ns epoch l k : ℕ) → ppm ≤ 100 → clocks ≤ 256 → loss_run ≤ 15
+        → frame_ns ≤ 10000000 → cycle_ns ≤ 500000000 → epoch ≤ 4000000000000000000
+        → AreTicksOf ppm l k → l ≤ 100000 * period_fs frame_ns
+        → start_ns (epoch + 10 * k) (lead_ns clocks loss_run frame_ns) cycle_ns < 2 ^ 63 }
 {}
 
 /// A run is long enough: its frames take U, a thousandth of it and two periods (`frames`); in these
@@ -165,12 +180,12 @@ pub fn start_lies_ahead()
 /// of every signal (`edges`).
 pub fn run_is_long_enough()
     ensures frames { (clocks loss_run frame_ns cycle_ns cycles : ℕ) → 1 ≤ frame_ns
-        → reach_ns clocks loss_run frame_ns cycle_ns cycles + reach_ns clocks loss_run frame_ns cycle_ns cycles / 1000 + 1 + 2 * frame_ns
+        → run_time_ns clocks loss_run frame_ns cycle_ns cycles + run_time_ns clocks loss_run frame_ns cycle_ns cycles / 1000 + 1 + 2 * frame_ns
         ≤ run_frames clocks loss_run frame_ns cycle_ns cycles * frame_ns }
     ensures ticks { (ppm clocks loss_run frame_ns cycle_ns cycles k x : ℕ) → ppm ≤ 100 → 50000 ≤ frame_ns
         → AreTicksOf ppm ((run_frames clocks loss_run frame_ns cycle_ns cycles + 1) * period_fs frame_ns) k
-        → 4 * x ≤ period_fs frame_ns → 1000000 * reach_ns clocks loss_run frame_ns cycle_ns cycles + x ≤ tick_fs * k }
+        → 4 * x ≤ period_fs frame_ns → 1000000 * run_time_ns clocks loss_run frame_ns cycle_ns cycles + x ≤ tick_fs * k }
     ensures edges { (r clocks loss_run frame_ns cycle_ns cycles shift k : ℕ) → shift + 2 ≤ 2 * cycle_ns → k < cycles
         → start_ns r (lead_ns clocks loss_run frame_ns) cycle_ns + shift + k * cycle_ns + 2
-        ≤ r + reach_ns clocks loss_run frame_ns cycle_ns cycles }
+        ≤ r + run_time_ns clocks loss_run frame_ns cycle_ns cycles }
 {}

@@ -22,6 +22,6 @@ pub fn run_frames(clocks: u16, loss_run: u8, frame_ns: u32, cycle_ns: u32, cycle
     ensures { result ≡ run_frames clocks loss_run frame_ns cycle_ns cycles }
 {
     let lead = lead_ns(clocks, loss_run, frame_ns);
-    let reach = lead + (u128::from(cycles) + 2) * u128::from(cycle_ns);
-    (reach + reach / 1000) / u128::from(frame_ns) + 3
+    let run_time = lead + (u128::from(cycles) + 2) * u128::from(cycle_ns);
+    (run_time + run_time / 1000) / u128::from(frame_ns) + 3
 }

@@ -11,18 +11,20 @@ use Rattle.cable_tree.specs.Row.{Row, IsRow}
 use Rattle.cable_tree.specs.Segment.{IsTree}
 use Rattle.cable_tree.specs.FrameOrder.{order}
 use Rattle.cable_tree.specs.PathSums.{arrive, round_trip}
-use Rattle.cable_tree.proofs.Rising.{order_pair, order_within}
+use Rattle.cable_tree.proofs.Rising.{order_pair}
 use Rattle.cable_tree.proofs.Members.{place_of}
 use Rattle.dc_bounds.specs.DelayBound.{delay_bound}
 use Rattle.dc_bounds.specs.TickBounds.{tick_gap}
 use Rattle.dc_bounds.specs.TickFacts.{IsNear}
-use Rattle.dc_bounds.specs.Weight.{measuring_parent, hops_within, is_leaf, is_over, reaches, higher_or, meeting, reference, weight, weight_below, weight_to}
+use Rattle.dc_bounds.specs.Weight.{measuring_parent, is_over, reaches, higher_or, meeting, reference, weight, weight_below, weight_to}
 use Rattle.dc_bounds.specs.Measurable.{unmeasurable}
+use Rattle.dc_bounds.proofs.FirstClock.{reference_within, reference_timed, reference_first}
+use Rattle.dc_bounds.proofs.Weightless.{weightless}
 use Rattle.dc_delay.specs.MeasuredDelay.{ahead, back, delay, delay_from}
 use Rattle.dc_delay.specs.LatchLaw.{AreAllLatched}
 use Rattle.dc_delay.proofs.Recursions.{climb_measuring, parent_measures, over_is, meeting_is}
 use Rattle.dc_delay.proofs.AddedUp.{weighed}
-use Rattle.dc_delay.proofs.Order.{find_first, has_parent, measurable_after, are_measurable}
+use Rattle.dc_delay.proofs.Order.{has_parent, measurable_after, are_measurable}
 
 -- one halving at the end, and 0 where the difference is negative
 halved : (up down d v : ℕ) → IsNear (1000000 * up) (1000000 * down + 2 * d) v → IsNear (1000000 * ((up - down) / 2)) d ((v + 1000000) / 2)
@@ -42,6 +44,14 @@ two_ways : (up down up' down' at p q a a' u v g : ℕ)
 two_ways up down up' down' at p q a a' u v g n m order =
     let w : (u + v) * g ≡ u * g + v * g = omega arith in
     record { above = omega (arith, n.above, m.below, w); below = omega (arith, n.below, m.above, w) }
+
+-- the reference itself
+pub reference_alone : (rows : List Row) (measures timed : ℕ → Bool) (q : ℕ) → reference rows timed ≡ Some q
+    → (weight rows measures timed q ≡ 0) × ((laps : ℕ → Port → ℕ) → delay rows measures timed laps (order rows) q ≡ 0)
+reference_alone rows measures timed q first = (
+  (weightless rows measures timed q q first).1 refl,
+  λ laps. ap (λ o. delay_from rows measures laps o q) first ∙ omega arith,
+)
 
 module _ (rows : List Row) (tree : IsTree rows) (slaves : All IsRow rows) (measures : ℕ → Bool) (none : unmeasurable rows measures (order rows) ≡ None) where
   abbrev over : ℕ → ℕ → Bool
@@ -118,46 +128,14 @@ module _ (rows : List Row) (tree : IsTree rows) (slaves : All IsRow rows) (measu
     meets = climb_measuring rows tree measures Meets (λ r within higher. meets_at r within (measuring_parent rows measures r) refl higher (over r q) refl)
 
   module _ (timed : ℕ → Bool) (clocks : (r : ℕ) → r < length rows → timed r ≡ true → measures r ≡ true) (q : ℕ) (first : reference rows timed ≡ Some q) where
-    reference_within : q < length rows
-    reference_within =
-        let f = find_first timed (order rows) q first in
-        let inside = order_within rows tree slaves f.0 f.1 in
-        omega (arith, inside, f.2)
+    within_tree : q < length rows
+    within_tree = reference_within rows tree slaves timed q first
 
-    reference_timed : timed q ≡ true
-    reference_timed = (find_first timed (order rows) q first).3
-
-    -- no clock arrives before the reference
-    pub reference_first : (r : ℕ) → r < length rows → timed r ≡ true → arrive rows q ≤ arrive rows r
-    reference_first r within is =
-        let f = find_first timed (order rows) q first in
-        let at = place_of rows tree r within in
-        let eq = ap (arrive rows) f.2 in
-        let er = ap (arrive rows) at.2 in
-        elim (cases_lt at.0 f.0) [
-          | inl lt ↦ absurd (false≢true (sym (f.4 at.0 lt) ∙ ap timed at.2 ∙ is))
-          | inr le ↦ elim (cases_lt f.0 at.0) [
-            | inl lt ↦ let rise = order_pair rows tree slaves f.0 at.0 lt at.1 in omega (arith, rise, eq, er)
-            | inr ge ↦ let same = ap (λ x. arrive rows (slice_index (order rows) x)) (let e : f.0 ≡ at.0 = omega arith in e) in omega (arith, same, eq, er)
-          ]
-        ]
+    q_measures : measures q ≡ true
+    q_measures = clocks q within_tree (reference_timed rows tree slaves timed q first)
 
     weight_is : (r : ℕ) → weight rows measures timed r ≡ weight_below rows measures (meeting rows measures q r) r + weight_below rows measures (meeting rows measures q r) q
     weight_is r = ap (weight_to rows measures r) first
-
-    -- the reference itself
-    pub reference_weight : weight rows measures timed q ≡ 0
-    reference_weight =
-        let here : meeting rows measures q q ≡ q =
-        meeting_is rows tree measures q q reference_within ∙ ap (λ b. if b then q else higher_or q (meeting rows measures q) (measuring_parent rows measures q)) (over_self q reference_within) in
-        let same : nat_eq q q ≡ true = search (rules, nat_tests) in
-        let none : weight_below rows measures q q ≡ 0 = rw same refl in
-        let both = ap (λ c. weight_below rows measures c q) here in
-        let is = weight_is q in
-        omega (arith, is, both, none)
-
-    pub reference_delay : (laps : ℕ → Port → ℕ) → delay rows measures timed laps (order rows) q ≡ 0
-    reference_delay laps = ap (λ o. delay_from rows measures laps o q) first ∙ omega arith
 
     module _ (laps : ℕ → Port → ℕ) (g : ℕ) (latched : AreAllLatched rows measures g laps) where
       abbrev measured : ℕ → ℕ
@@ -168,15 +146,14 @@ module _ (rows : List Row) (tree : IsTree rows) (slaves : All IsRow rows) (measu
 
       pub near : (r : ℕ) → r < length rows → timed r ≡ true → IsNear (1000000 * measured r) (arrive rows r - arrive rows q) ((weight rows measures timed r * g + 1000000) / 2)
       near r within is =
-          let q_measures = clocks q reference_within reference_timed in
           let r_measures = clocks r within is in
           let c = meeting rows measures q r in
-          let both = meets q reference_within q_measures r within r_measures in
+          let both = meets q within_tree q_measures r within r_measures in
           let possible = are_measurable rows tree measures slaves none in
           let n = weighed rows tree measures laps g latched possible c r within r_measures both.1 in
-          let m = weighed rows tree measures laps g latched possible c q reference_within q_measures both.0 in
+          let m = weighed rows tree measures laps g latched possible c q within_tree q_measures both.0 in
           let apart = two_ways (ahead rows measures laps r) (back rows measures laps r) (ahead rows measures laps q) (back rows measures laps q) (arrive rows c) (ahead rows measures laps c) (back rows measures laps c)
-          (arrive rows r) (arrive rows q) (weight_below rows measures c r) (weight_below rows measures c q) g n m (reference_first r within is) in
+          (arrive rows r) (arrive rows q) (weight_below rows measures c r) (weight_below rows measures c q) g n m (reference_first rows tree slaves timed q first r within is) in
           let half = halved (ahead rows measures laps r + back rows measures laps q) (back rows measures laps r + ahead rows measures laps q) (arrive rows r - arrive rows q)
           ((weight_below rows measures c r + weight_below rows measures c q) * g) apart in
           moved _ _ _ _ _ (ap (λ d. 1000000 * d) (measured_is r)) (ap (λ w. (w * g + 1000000) / 2) (weight_is r)) half
@@ -184,21 +161,9 @@ module _ (rows : List Row) (tree : IsTree rows) (slaves : All IsRow rows) (measu
           moved : (a b d v w : ℕ) → a ≡ b → v ≡ w → IsNear b d w → IsNear a d v
           moved a b d v w p e n = record { above = omega (arith, n.above); below = omega (arith, n.below) }
 
-      -- a weight of 0 is that of the reference
-      weight_none : (c r : ℕ) → weight_below rows measures c r ≡ 0 → r ≡ c
-      weight_none c r e = by (nat_eq r c) refl
-        where
-          by : (same : Bool) → nat_eq r c ≡ same → r ≡ c
-          by true same = eqb-true r c same
-          by false other = absurd (let some : weight_below rows measures c r ≡ 1 + hops_within rows measures c (length rows) r + (if is_leaf rows r then 0 else 1) = ap (λ b. if b then 0 else 1 + hops_within rows measures c (length rows) r + (if is_leaf rows r then 0 else 1)) other in omega (arith, some, e))
-
       exact : (r : ℕ) → weight rows measures timed r ≡ 0 → IsNear (1000000 * measured r) (arrive rows r - arrive rows q) 0
       exact r light =
-          let c = meeting rows measures q r in
-          let is = weight_is r in
-          let here : r ≡ c = weight_none c r (omega (arith, is, light)) in
-          let there : q ≡ c = weight_none c q (omega (arith, is, light)) in
-          let same : r ≡ q = here ∙ sym there in
+          let same : r ≡ q = (weightless rows measures timed q r first).0 light in
           let a = ap (ahead rows measures laps) same in
           let b = ap (back rows measures laps) same in
           let t = ap (arrive rows) same in

@@ -17,28 +17,6 @@ use Rattle.dc_bounds.specs.Measurable.{branches, leads_from, is_measurable, unme
 use Rattle.dc_delay.specs.LatchLaw.{AreMeasurable}
 use Rattle.dc_delay.proofs.Recursions.{climb_above, measuring_is, measured_is, parent_measures, parent_within}
 
--- the first element that passes, with those before it
-abbrev pub IsFirst : (ℕ → Bool) → List ℕ → ℕ → Type 0
-IsFirst test xs x = (j : ℕ) × (j < length xs) × (slice_index xs j ≡ x) × (test x ≡ true) × ((k : ℕ) → k < j → test (slice_index xs k) ≡ false)
-
-first_more : (test : ℕ → Bool) (y : ℕ) (ys : List ℕ) (j : ℕ) → test y ≡ false → ((k : ℕ) → k < j → test (slice_index ys k) ≡ false)
-    → (k : ℕ) → k < suc j → test (slice_index (y ∷ ys) k) ≡ false
-first_more test y ys j e h zero less = e
-first_more test y ys j e h (suc k) less = h k (omega arith)
-
-first_step : (test : ℕ → Bool) (y : ℕ) (ys : List ℕ) (x : ℕ) (b : Bool) → test y ≡ b → find test (y ∷ ys) ≡ Some x → (find test ys ≡ Some x → IsFirst test ys x) → IsFirst test (y ∷ ys) x
-first_step test y ys x true e found later =
-    let same : Some y ≡ Some x = sym (rw e refl) ∙ found in
-    let is : y ≡ x = cc in
-    (0, omega arith, is, subst (λ z. test z ≡ true) is e, λ k less. absurd (omega arith))
-first_step test y ys x false e found later =
-    let rest = later (sym (rw e refl) ∙ found) in
-    (suc rest.0, omega (arith, rest.1), rest.2, rest.3, first_more test y ys rest.0 e rest.4)
-
-pub find_first : (test : ℕ → Bool) (xs : List ℕ) (x : ℕ) → find test xs ≡ Some x → IsFirst test xs x
-find_first test [] x found = absurd cc
-find_first test (y ∷ ys) x found = first_step test y ys x (test y) refl found (find_first test ys x)
-
 module _ (measures test : ℕ → Bool) where
   -- where no measuring one fails, each passes
   all_pass : (xs : List ℕ) → find (λ r. not (test r)) (filter measures xs) ≡ None → (i : ℕ) → i < length xs → measures (slice_index xs i) ≡ true → test (slice_index xs i) ≡ true

@@ -1,10 +1,8 @@
 -- Latched times that are readings of a clock.
-use Rattle.std.specs.Prelude.{◌≡◌, ℕ, ◌+◌, ◌-◌, ◌*◌, ◌/◌, ◌%◌, ◌^◌, ◌<◌, ◌≤◌, Some, List, length}
+use Rattle.std.specs.Prelude.{◌≡◌, ℕ, ◌+◌, ◌-◌, ◌*◌, ◌%◌, ◌^◌, ◌<◌, ◌≤◌, Some, List, length}
 use Rattle.std.specs.List.{All}
 use Rattle.std.proofs.Common.{arith, ap, ◌∙◌, inl, inr}
 use Rattle.std.proofs.lemmas.Bool.{cases_lt}
-use Rattle.std.proofs.lemmas.Nat.{pow_pos}
-use Rattle.std.proofs.Math.Nat.{mod-add-mod, mod-eq_of_lt, add-mul-mod_self_left}
 use Rattle.cable_tree.specs.declared.port.Port.{Port}
 use Rattle.cable_tree.specs.Row.{Row, IsRow}
 use Rattle.cable_tree.specs.Segment.{IsTree}
@@ -12,6 +10,7 @@ use Rattle.cable_tree.specs.FrameOrder.{child}
 use Rattle.cable_tree.specs.PathSums.{round_trip}
 use Rattle.cable_tree.specs.Hops.{lap}
 use Rattle.cable_tree.proofs.Inside.{lap_inside}
+use Rattle.wrap_time.proofs.Cuts.{latched_difference}
 use Rattle.osc_clock.specs.Ticks.{Oscillator, IsRunning, ticks}
 use Rattle.osc_clock.proofs.TickLaws.{ticks_rise}
 use Rattle.dc_bounds.specs.TickBounds.{tick_gap}
@@ -22,13 +21,8 @@ use Rattle.dc_delay.specs.Latched.{latched}
 use Rattle.dc_delay.specs.LatchLaw.{AreLatched, AreReadings}
 
 -- a difference of two words, where the time between them is less than the whole range
-wrapped : (m x k : ℕ) → 0 < m → k < m → ((x + k) % m + (m - x % m)) % m ≡ k
-wrapped m x k some below =
-    let is : (x + k) + (m - x % m) ≡ k + m * (x / m + 1) = omega arith in
-    mod-add-mod (x + k) m (m - x % m) ∙ ap (λ n. n % m) is ∙ add-mul-mod_self_left k m (x / m + 1) ∙ mod-eq_of_lt below
-
 latched_rise : (x k : ℕ) → k < 4294967296 → latched ((x + k) % 2 ^ 32) (x % 2 ^ 32) ≡ k
-latched_rise x k small = wrapped (2 ^ 32) x k (pow_pos 32) small
+latched_rise x k small = latched_difference 32 x (x + k) (omega arith) (omega (arith, small)) ∙ omega arith
 
 lap_short : (rows : List Row) → IsTree rows → All IsRow rows → (r : ℕ) (p : Port) (k : ℕ) → r < length rows → child rows r p ≡ Some k → lap rows r p ≤ round_trip rows
 lap_short rows tree slaves r p k within e = let part = lap_inside rows tree slaves r p k within e in omega (arith, part)

@@ -21,9 +21,9 @@ impl Latch {
         ensures is { result ≡ lap_of (Some self.now) port }
         ensures few { result < 2 ^ 32 }
     {
-        let back = self.ports[port_number(port)].value();
-        let arrival = self.ports[0].value();
-        (back + ((1 << 32) - arrival)) % (1 << 32)
+        let back = self.ports[port_number(port)];
+        let arrival = self.ports[0];
+        back.sub(arrival.value()).value()
     }
 }
 

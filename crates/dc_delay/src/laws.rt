@@ -45,17 +45,20 @@ pub fn hops_add_up()
         (weight_below rows measures c r * g) }
 {}
 
+/// Where no slave is told to be unmeasurable, each measuring slave that has a measuring parent can be
+/// measured from it.
+pub fn slaves_are_measurable()
+    ensures { (rows : List Row) → IsTree rows → All IsRow rows → (measures : ℕ → Bool)
+        → unmeasurable rows measures (order rows) ≡ None → AreMeasurable rows measures }
+{}
+
 /// The measured delay of a clock is near the true one, which is no negative number: within half of its
 /// weight times g and of 1 ns, rounded down. With G of the round trip that is the delay bound. The weight
-/// of the reference is 0, and so is its delay, exactly.
+/// of the reference is 0, and so is its delay, exactly: whatever the rows are.
 pub fn measured_delays_are_near()
-    ensures reference { (rows : List Row) → IsTree rows → All IsRow rows → (measures : ℕ → Bool) → unmeasurable rows measures (order rows) ≡ None
-        → (timed : ℕ → Bool) → ((r : ℕ) → r < length rows → timed r ≡ true → measures r ≡ true)
-        → (first : ℕ) → reference rows timed ≡ Some first
+    ensures reference { (rows : List Row) (measures timed : ℕ → Bool) (first : ℕ) → reference rows timed ≡ Some first
         → (weight rows measures timed first ≡ 0) × ((laps : ℕ → Port → ℕ) → delay rows measures timed laps (order rows) first ≡ 0) }
-    ensures later { (rows : List Row) → IsTree rows → All IsRow rows → (measures : ℕ → Bool) → unmeasurable rows measures (order rows) ≡ None
-        → (timed : ℕ → Bool) → ((r : ℕ) → r < length rows → timed r ≡ true → measures r ≡ true)
-        → (first : ℕ) → reference rows timed ≡ Some first
+    ensures later { (rows : List Row) → IsTree rows → All IsRow rows → (timed : ℕ → Bool) (first : ℕ) → reference rows timed ≡ Some first
         → (r : ℕ) → r < length rows → timed r ≡ true → arrive rows first ≤ arrive rows r }
     ensures near { (rows : List Row) → IsTree rows → All IsRow rows → (measures : ℕ → Bool) → unmeasurable rows measures (order rows) ≡ None
         → (timed : ℕ → Bool) → ((r : ℕ) → r < length rows → timed r ≡ true → measures r ≡ true)

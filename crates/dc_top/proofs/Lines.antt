@@ -12,7 +12,7 @@ use Rattle.segment_file.specs.Legal.{IsClock, IsLegal}
 use Rattle.segment_file.specs.Segment.{RowValue, SegmentValue, is_measuring, tree_row, tree_rows}
 use Rattle.segment_file.specs.Seen.{row_seen}
 use Rattle.segment_file.specs.declared.slave_row.SlaveRow.{SlaveRow}
-use Rattle.wire_sim.specs.LineSlave.{IsInRange}
+use Rattle.line_wire.specs.LineSlave.{IsInRange}
 use Rattle.dc_top.specs.LineFile.{is_c64, is_behind, are_behind, is_steady, is_line, slave_of}
 
 are_behind_more : (rows : List SlaveRow) (i : ℕ) (d : SlaveRow) → i < length rows

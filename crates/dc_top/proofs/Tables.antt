@@ -1,7 +1,7 @@
 -- The lines of a table, one after another.
 use Rattle.std.proofs.Common.{◌≡◌, ◌∙◌, sym, ap, ℕ, ◌+◌, ◌<◌, ◌≤◌, List, ◌++◌, length, map, drop, get_or, refl, append_assoc, append-nil}
 use Rattle.std.proofs.lemmas.List.{drop_more, drop_all}
-use Rattle.wire_sim.specs.LineSlave.{SlaveValue}
+use Rattle.line_wire.specs.LineSlave.{SlaveValue}
 use Rattle.dc_top.specs.Seen.{line_row_seen}
 use Rattle.dc_top.specs.Table.{wire_of, bound_of, row_text, rows_text}
 use Rattle.dc_top.specs.declared.line_file.Row.{Row}

@@ -7,7 +7,7 @@ use Rattle.cable_tree.specs.declared.port.Port.TheVariants.{P1, P2, P3}
 use Rattle.esc_regs.specs.declared.clock_kind.ClockKind.{ClockKind}
 use Rattle.esc_regs.specs.declared.clock_kind.ClockKind.TheVariants as kind
 use Rattle.segment_file.specs.Segment.{RowValue, SegmentValue}
-use Rattle.wire_sim.specs.LineSlave.{SlaveValue}
+use Rattle.line_wire.specs.LineSlave.{SlaveValue}
 
 -- a slave of a line
 pub record LineRow : Type 0 where

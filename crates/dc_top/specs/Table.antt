@@ -1,8 +1,8 @@
 -- The delay table of a line, as text. The first slave is the reference, and every slave is a 64-bit clock.
 use Rattle.std.specs.Prelude.{◌≡◌, ℕ, zero, suc, ◌+◌, ◌-◌, ◌*◌, ◌/◌, ◌^◌, ◌==◌, false, List, [], ◌∷◌, ◌++◌, length, map, codes, decimal, if◌then◌else◌}
 use Rattle.std.specs.Fmt.{digits, padded_integral, format_spec}
-use Rattle.wire_sim.specs.LineSlave.{SlaveValue}
-use Rattle.wire_sim.specs.PathSums.{arrive_of, round_trip_of}
+use Rattle.line_wire.specs.LineSlave.{SlaveValue}
+use Rattle.line_wire.specs.PathSums.{arrive_of, round_trip_of}
 use Rattle.dc_top.specs.LineFile.{LineRow, LineValue}
 
 abbrev pub slaves_of : LineValue → List SlaveValue

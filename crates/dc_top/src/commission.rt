@@ -6,7 +6,7 @@ use crate::request::{Ask, data, request};
 use arrayvec::ArrayVec;
 use byteorder::{ByteOrder, LittleEndian};
 use ecat_frame::Command;
-use wire_sim::{LineSlave, Wire};
+use line_wire::{LineSlave, Wire};
 
 /// Every frame is sent one period (ns) after the one before it.
 pub(crate) const PERIOD_NS: u64 = 1_000_000;

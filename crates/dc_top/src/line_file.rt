@@ -2,7 +2,7 @@
 ghost use Rattle.std.specs.Prelude.{◌≡◌, ◌≤◌, length, map, option_map, IfOk, IfSome};
 ghost use Rattle.std.specs.List.{All, list_all};
 ghost use Rattle.segment_file.specs.Seen.{row_seen};
-ghost use Rattle.wire_sim.specs.LineSlave.{IsInRange};
+ghost use Rattle.line_wire.specs.LineSlave.{IsInRange};
 ghost use Rattle.dc_top.specs.LineFile.{is_c64, is_p1, is_steady, is_behind, are_behind, is_line, slave_of, line_row, line_of};
 ghost use Rattle.dc_top.specs.Seen.{line_row_seen, line_seen};
 
@@ -10,9 +10,9 @@ use crate::commission::{PERIOD_NS, SPEED};
 use cable_tree::{Above, Port};
 use dc_base::NoMemory;
 use esc_regs::ClockKind;
+use line_wire::LineSlave;
 use segment_file::{Id, Segment, SlaveRow};
 use std::alloc::Global;
-use wire_sim::LineSlave;
 
 /// A slave of a line.
 #[derive(Clone, Copy)]

@@ -1,7 +1,7 @@
 // Frames that a master sends.
 ghost use Rattle.std.specs.Prelude.{◌≡◌, ◌+◌, ◌≤◌, ◌<◌, ◌++◌, ◌∷◌, [], length, map, sum_by, slice_get, Some};
 ghost use Rattle.ecat_frame.specs.Built.{size_of};
-ghost use Rattle.wire_sim.specs.Untouched.{lengths_of};
+ghost use Rattle.line_wire.specs.Untouched.{lengths_of};
 
 use ecat_frame::{Builder, Command, Frame, Head};
 

@@ -4,10 +4,10 @@ ghost use Rattle.dc_top.specs.Table.{slaves_of, wire_of, gap_of, bound_of, kind_
 ghost use Rattle.dc_top.specs.Seen.{line_row_seen, line_seen};
 
 use crate::line_file::{LineFile, Row};
+use line_wire::{LineSlave, arrive, round_trip};
 use segment_file::Id;
 use std::alloc::{AllocError, Global};
 use std::fmt::Write;
-use wire_sim::{LineSlave, arrive, round_trip};
 
 // The true delay of a clock, in fs.
 fn wire(slaves: &[LineSlave], position: usize) -> u64

@@ -18,8 +18,8 @@ use crate::table::table;
 use crate::words::{Task, task_of};
 use dc_base::{NoMemory, ReadAllError, Sink, Source, read_all, write_whole};
 use dc_show::ShowError;
+use line_wire::Wire;
 use std::alloc::Global;
-use wire_sim::Wire;
 
 /// The most bytes of an input.
 const INPUT_LIMIT: usize = 16_777_216;

@@ -1,8 +1,8 @@
 -- A script that is run over the state of a segment, by turns.
-use Rattle.std.specs.Prelude.{ℕ, zero, suc, List, [], ◌∷◌, ◌++◌, Option, Some, None}
+use Rattle.std.specs.Prelude.{◌≡◌, ℕ, zero, suc, List, [], ◌∷◌, ◌++◌, Option, Some, None}
 use Rattle.ecat_frame.specs.FrameGrammar.{FrameValue}
-use Rattle.ecat_link.specs.Exchanges.{Exchange, StepOf}
-use Rattle.ecat_link.specs.Serves.{Next, Send, End}
+use Rattle.ecat_link.specs.Exchanges.{Exchange, StepOf, Runs}
+use Rattle.ecat_link.specs.Serves.{Next, Send, End, Sends}
 
 -- how a run ends: all exchanges up to then, the state of the segment, and the answer
 pub record Ending (S A : Type 0) : Type 0 where
@@ -22,3 +22,12 @@ drive step next (suc turns) before s = elim (next before) [
   | End answer ↦ Some (record { exchanges = before; state = s; answer = answer })
   | Send wait_ns frame ↦ drive step next turns (before ++ exchange_of step s wait_ns frame ∷ []) (step s wait_ns frame).0
 ]
+
+-- A run that went on from these exchanges and this state: more exchanges by the step, each what the script wanted, up to
+-- its end.
+pub record IsDriven {S A : Type 0} (step : StepOf S) (next : List Exchange → Next A) (before : List Exchange) (s : S) (run : Ending S A) : Type 0 where
+  pub more : List Exchange
+  pub all : run.exchanges ≡ before ++ more
+  pub runs : Runs step (Some s) more (Some run.state)
+  pub script : Sends next before more
+  pub end : next run.exchanges ≡ End run.answer

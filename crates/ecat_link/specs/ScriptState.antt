@@ -19,12 +19,12 @@ LosesNext (Echo ∷ rest) = ⊥
 LosesNext (Give given ∷ rest) = ⊥
 
 -- what is left of the replies, and what comes back, where a frame is answered by the next reply
-abbrev pub answered : List ScriptReply → ℕ → FrameValue → ScriptState × Option FrameValue
-answered [] lost frame = (record { replies = []; lost = raised lost }, None)
-answered (Lose ∷ rest) lost frame = (record { replies = rest; lost = raised lost }, None)
-answered (Echo ∷ rest) lost frame = (record { replies = rest; lost = lost }, Some frame)
-answered (Give given ∷ rest) lost frame = (record { replies = rest; lost = lost }, Some given)
+abbrev pub replied : List ScriptReply → ℕ → FrameValue → ScriptState × Option FrameValue
+replied [] lost frame = (record { replies = []; lost = raised lost }, None)
+replied (Lose ∷ rest) lost frame = (record { replies = rest; lost = raised lost }, None)
+replied (Echo ∷ rest) lost frame = (record { replies = rest; lost = lost }, Some frame)
+replied (Give given ∷ rest) lost frame = (record { replies = rest; lost = lost }, Some given)
 
 -- the step of such a link, whatever the wait is
 abbrev pub script_step : ScriptState → ℕ → FrameValue → ScriptState × Option FrameValue
-script_step s wait_ns frame = answered s.replies s.lost frame
+script_step s wait_ns frame = replied s.replies s.lost frame

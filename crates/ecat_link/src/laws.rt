@@ -5,7 +5,7 @@
 
 ghost use Rattle.std.specs.Prelude.{◌≡◌, ◌<◌, ℕ, ◌+◌, List, ◌++◌, length, Option, Some};
 ghost use Rattle.dc_base.specs.Causes.{Rose};
-ghost use Rattle.ecat_link.specs.Drive.{drive};
+ghost use Rattle.ecat_link.specs.Drive.{Ending, IsDriven, drive};
 ghost use Rattle.ecat_link.specs.Exchanges.{Exchange, StepOf, Runs, lost_among};
 ghost use Rattle.ecat_link.specs.RoseBy.{RoseBy};
 ghost use Rattle.ecat_link.specs.Serves.{Next, End, Sends};
@@ -25,6 +25,13 @@ pub fn run_is<S, A>()
         → Runs step (Some s) es t → Sends next before es → next (before ++ es) ≡ End answer → length es < turns
         → (u : S) × (t ≡ Some u)
         × (drive step next turns before s ≡ Some (record { exchanges = before ++ es; state = u; answer = answer })) }
+{}
+
+/// The run of a script is made of exchanges by the step, each what the script wants behind those before it,
+/// up to the script's end.
+pub fn runs_are_driven<S, A>()
+    ensures { (step : StepOf S) (next : List Exchange → Next A) (turns : ℕ) (before : List Exchange) (s : S) (run : Ending S A)
+        → drive step next turns before s ≡ Some run → IsDriven step next before s run }
 {}
 
 /// Of exchanges and then more of them, those are lost that are lost of either.

@@ -47,6 +47,7 @@ fn callers_are_generic_in_the_link(rt: HostRuntime) -> Result<(), Fail> {
 fn laws_have_nothing_to_run(_rt: HostRuntime) {
     laws::runs_then::<ScriptLink>();
     laws::run_is::<ScriptLink, u32>();
+    laws::runs_are_driven::<ScriptLink, u32>();
     laws::lost_then();
     laws::rose_in_turn();
 }

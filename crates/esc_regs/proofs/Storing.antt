@@ -74,7 +74,7 @@ speed_bounds x e = (grind (arith, nat_tests, e), grind (arith, nat_tests, e))
 pub rate_bounds : (addr : ℕ) (bytes : List ℕ) → IfSome (rate_by addr bytes) (λ g. (2 ≤ g) × (g ≤ 255))
 rate_bounds addr bytes = rate_of (covers 0x0930 2 addr (length bytes)) (is_speed (number_at 2 (0x0930 - addr) bytes)) (number_at 2 (0x0930 - addr) bytes) (speed_bounds _)
 
-decide : (b : Bool) → (b ≡ true) ⊎ (b ≡ false)
+pub decide : (b : Bool) → (b ≡ true) ⊎ (b ≡ false)
 decide true = inl refl
 decide false = inr refl
 

@@ -26,7 +26,7 @@ pub neither : (b c : Bool) → (b || c) ≡ false → (b ≡ false) × (c ≡ fa
 neither true c h = cc
 neither false c h = (refl, h)
 
-both : (b c : Bool) → (b && c) ≡ true → (b ≡ true) × (c ≡ true)
+pub both : (b c : Bool) → (b && c) ≡ true → (b ≡ true) × (c ≡ true)
 both true c h = (refl, h)
 both false c h = cc
 

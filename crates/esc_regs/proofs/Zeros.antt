@@ -32,7 +32,7 @@ byte_past (suc (suc (suc (suc (suc (suc (suc zero))))))) x low high small =
 byte_past (suc (suc (suc (suc (suc (suc (suc (suc j)))))))) x low high small = absurd (omega arith)
 
 -- where a byte of no register stands from a register on
-past_held : (kind : ClockKind) (addr n a : ℕ) → is_register addr n ≡ true → is_defined kind a ≡ false → addr ≤ a → addr + held kind n ≤ a
+pub past_held : (kind : ClockKind) (addr n a : ℕ) → is_register addr n ≡ true → is_defined kind a ≡ false → addr ≤ a → addr + held kind n ≤ a
 past_held kind addr n a register undefined low =
     elim (cases_lt a (addr + held kind n)) [
       | inl inside ↦ absurd (both_ways (is_defined kind a) undefined (register_defined kind addr n a register low inside))

@@ -3,4 +3,5 @@ pub mod RegisterBytes
 pub mod RegisterAccess
 pub mod RegisterFile
 pub mod RegisterWrite
+pub mod StartOfRegisters
 pub mod ShownRegisters

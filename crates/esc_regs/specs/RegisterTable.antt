@@ -62,8 +62,8 @@ registers =
     ∷ []
 
 -- where a register stands
-abbrev pub place_of : Register → Place
-place_of r = record { addr = r.addr; bytes = r.bytes }
+abbrev pub register_place : Register → Place
+register_place r = record { addr = r.addr; bytes = r.bytes }
 
 -- a register without its number at the start
 abbrev pub row_of : Register → ℕ × ℕ × Writing

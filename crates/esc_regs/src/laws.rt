@@ -1,12 +1,16 @@
 //! Laws over the definitions alone, for proofs of the layers above.
 
-ghost use Rattle.std.specs.Prelude.{◌≡◌, ℕ, ◌+◌, ◌-◌, ◌^◌, ◌<◌, ◌≤◌, IfSome, List, length, slice_index, true, false};
+ghost use Rattle.std.specs.Prelude.{◌≡◌, ℕ, ◌+◌, ◌-◌, ◌^◌, ◌<◌, ◌≤◌, IfSome, List, length, true, false};
 ghost use Rattle.std.specs.Option.{is_some};
-ghost use Rattle.esc_regs.specs.RegisterBytes.{number_at, with_number, AreApart};
+ghost use Rattle.esc_regs.specs.RegisterBytes.{number_at, with_number, AreApart, AreBytes};
 ghost use Rattle.esc_regs.specs.RegisterAccess.{is_refused, is_writable, rate_by, Stores};
-ghost use Rattle.esc_regs.specs.RegisterFile.{Registers, IsWhole};
+ghost use Rattle.esc_regs.specs.RegisterFile.{Registers, IsWhole, StartsBy};
 ghost use Rattle.esc_regs.specs.RegisterTable.{is_register, is_wide};
 ghost use Rattle.esc_regs.specs.RegisterWrite.{written};
+ghost use Rattle.esc_regs.specs.ShownRegisters.{shown};
+ghost use Rattle.esc_regs.specs.StartOfRegisters.{registers_at_start};
+ghost use Rattle.esc_regs.specs.declared.clock_kind.ClockKind.{ClockKind};
+ghost use Rattle.esc_regs.specs.declared.live.Live.{Live};
 
 /// A number that was stored is loaded again.
 pub fn load_after_store()
@@ -23,9 +27,9 @@ pub fn store_leaves_length()
     ensures { (n at x : ℕ) (bytes : List ℕ) → at + n ≤ length bytes → length (with_number n at x bytes) ≡ length bytes }
 {}
 
-/// A number of n bytes is below 256^n.
+/// A number of n bytes is below 256^n: so is each that stands in whole registers.
 pub fn numbers_fit()
-    ensures { (n at : ℕ) (bytes : List ℕ) → ((j : ℕ) → slice_index bytes j < 256) → number_at n at bytes < 256 ^ n }
+    ensures { (n at : ℕ) (bytes : List ℕ) → AreBytes bytes → number_at n at bytes < 256 ^ n }
 {}
 
 /// A register of 8 bytes holds the number of its lower half, where the clock does not have 64 bits.
@@ -54,6 +58,18 @@ pub fn write_leaves_others()
 /// A write that has all bytes of a number, each of them writable, stores the number that it brings.
 pub fn write_stores_numbers()
     ensures { (r : Registers) (addr : ℕ) (bytes : List ℕ) (at n : ℕ) → length r.bytes ≡ 4096 → is_refused r.kind addr (length bytes) ≡ false → addr ≤ at → at + n ≤ addr + length bytes → ((k : ℕ) → k < n → is_writable r.kind (is_some (rate_by addr bytes)) (at + k) ≡ true) → number_at n at (written r addr bytes).bytes ≡ number_at n (at - addr) bytes }
+{}
+
+/// The registers before the first frame are whole, and each of the table has its number there.
+pub fn registers_start()
+    ensures whole { (kind : ClockKind) → IsWhole (registers_at_start kind) }
+    ensures numbers { (kind : ClockKind) → StartsBy kind (registers_at_start kind).bytes }
+{}
+
+/// Whole registers stay whole, whatever bytes are written, and are whole with any live numbers.
+pub fn stay_whole()
+    ensures written { (r : Registers) (addr : ℕ) (bytes : List ℕ) → IsWhole r → AreBytes bytes → IsWhole (written r addr bytes) }
+    ensures shown { (live : Live) (r : Registers) → IsWhole r → IsWhole (shown live r) }
 {}
 
 /// A rate that a write tells is from 2 to 255.

@@ -27,8 +27,8 @@ mod table;
 pub use answers::{Access, Written};
 pub use clock_kind::ClockKind;
 pub use laws::{
-    load_after_store, narrow_numbers, numbers_fit, rates_told, store_leaves_length,
-    store_leaves_others, write_leaves_kind, write_leaves_others, write_stores,
+    load_after_store, narrow_numbers, numbers_fit, rates_told, registers_start, stay_whole,
+    store_leaves_length, store_leaves_others, write_leaves_kind, write_leaves_others, write_stores,
     write_stores_numbers,
 };
 pub use live::Live;

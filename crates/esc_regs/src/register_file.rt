@@ -5,6 +5,7 @@ ghost use Rattle.esc_regs.specs.RegisterAccess.{is_refused};
 ghost use Rattle.esc_regs.specs.RegisterFile.{IsWhole, StartsBy};
 ghost use Rattle.esc_regs.specs.RegisterWrite.{written, told};
 ghost use Rattle.esc_regs.specs.ShownRegisters.{showing, shown};
+ghost use Rattle.esc_regs.specs.StartOfRegisters.{registers_at_start};
 
 use crate::answers::{Access, Written};
 use crate::clock_kind::ClockKind;
@@ -24,13 +25,14 @@ pub struct RegFile {
 }
 
 impl Model for RegFile {
+    ghost use Rattle.esc_regs.specs.RegisterBytes.{AreBytes};
     ghost use Rattle.esc_regs.specs.RegisterFile.{Registers, HasZeros};
 
     ghost Value = { Registers };
 
     ghost view = { λ r. record { kind = r.kind; bytes = r.bytes } };
 
-    ghost invariant = { λ r. HasZeros r.kind r.bytes };
+    ghost invariant = { λ r. HasZeros r.kind r.bytes × AreBytes r.bytes };
 
     ghost inverse = { λ r. record { kind = r.kind; bytes = r.bytes } };
 }
@@ -50,6 +52,7 @@ impl RegFile {
     /// The registers of a slave of this kind before its first frame. What the topology and the clock
     /// make of them, as the DL status, is 0 until it is set.
     pub fn new(kind: ClockKind) -> Self
+        ensures is { result ≡ registers_at_start kind }
         ensures kind { result.kind ≡ kind }
         ensures start { StartsBy kind result.bytes }
         ensures whole { IsWhole result }
@@ -68,6 +71,13 @@ impl RegFile {
         ensures { result ≡ self.now.kind }
     {
         self.kind
+    }
+
+    /// Nothing to run: it says for proofs that every register file is whole.
+    pub fn whole(&self)
+        ensures { IsWhole self.now }
+    {
+        let _ = &self.bytes;
     }
 
     /// Fills `out` with the bytes from `addr` on, as a frame reads them. A refused read leaves it.

@@ -2,7 +2,7 @@
 
 ghost use Rattle.std.specs.Prelude.{◌≡◌, ◌+◌, ◌≤◌, map};
 ghost use Rattle.std.specs.List.{All};
-ghost use Rattle.esc_regs.specs.RegisterTable.{registers, row_of, place_of};
+ghost use Rattle.esc_regs.specs.RegisterTable.{registers, row_of, register_place};
 
 use crate::names::{
     Activation, Controller, CyclicControl, Delay, Difference, DlStatus, Features, FilterDepth1,
@@ -66,7 +66,7 @@ pub(crate) fn rows() -> &'static [Row]
 /// This is the table that ties each name to its register: a name at another address or with another
 /// number of bytes is refused here.
 pub fn places() -> [Place; 24]
-    ensures { result ≡ map place_of registers }
+    ensures { result ≡ map register_place registers }
 {
     [
         Controller::new().place(),

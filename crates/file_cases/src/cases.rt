@@ -1,6 +1,9 @@
 use crate::{segments, shapes};
 use std::alloc::{AllocError, Global};
 
+/// The answer to a line that says no case.
+pub(crate) const UNREAD: &str = "unread";
+
 /// The file that cases speak of.
 #[derive(Drop)]
 pub(crate) struct Cases {
@@ -19,51 +22,81 @@ impl Cases {
 
     /// The answer to a case.
     pub(crate) fn answer(&mut self, alloc: Global, line: &str) -> Result<String, AllocError> {
+        let mut told = String::new(alloc);
         let (word, rest) = line.split_once(' ').unwrap_or((line, ""));
-        if word == "shape" || word == "segment" {
-            self.is_segment = word == "segment";
-            self.file = String::from_str(alloc, rest)?;
-            self.read(alloc, rest)
-        } else if word == "edit" {
-            let file = edited(alloc, &self.file, rest)?;
-            self.read(alloc, &file)
-        } else if word == "many" {
-            let file = lengthened(alloc, &self.file, rest)?;
-            self.read(alloc, &file)
-        } else if self.is_segment {
-            segments::told(alloc, &self.file, word, rest)
+        match word {
+            "shape" | "segment" => {
+                self.is_segment = word == "segment";
+                self.file = String::from_str(alloc, rest)?;
+                self.read(alloc, rest, &mut told)?;
+            }
+            "edit" | "many" => self.read_changed(alloc, (word, rest), &mut told)?,
+            _ if self.is_segment => segments::tell(alloc, &self.file, (word, rest), &mut told)?,
+            _ => shapes::tell(alloc, &self.file, (word, rest), &mut told)?,
+        }
+        Ok(told)
+    }
+
+    fn read(&self, alloc: Global, file: &str, told: &mut String) -> Result<(), AllocError> {
+        if self.is_segment {
+            segments::read(alloc, file, told)
         } else {
-            shapes::told(alloc, &self.file, word, rest)
+            shapes::read(alloc, file, told)
         }
     }
 
-    fn read(&self, alloc: Global, file: &str) -> Result<String, AllocError> {
-        if self.is_segment {
-            segments::answer(alloc, file)
+    fn read_changed(
+        &self,
+        alloc: Global,
+        (word, how): (&str, &str),
+        told: &mut String,
+    ) -> Result<(), AllocError> {
+        let mut file = self.file.clone()?;
+        let is_changed = match word {
+            "edit" => edit(alloc, &mut file, how)?,
+            _ => lengthen(alloc, &mut file, how)?,
+        };
+        if is_changed {
+            self.read(alloc, &file, told)
         } else {
-            shapes::answer(alloc, file)
+            told.push_str(UNREAD)
         }
     }
 }
 
-fn edited(alloc: Global, file: &str, edits: &str) -> Result<String, AllocError> {
-    let mut file = String::from_str(alloc, file)?;
+// Puts each second text in place of the one before it; false where the file lacks one of these.
+fn edit(alloc: Global, file: &mut String, edits: &str) -> Result<bool, AllocError> {
     let mut rest = edits;
-    for _ in 0..4 {
+    for _edit in 0..edits.len() {
         let Some((old, after)) = rest.split_once('|') else {
-            break;
+            return Ok(false);
         };
+        if !file.contains(old) {
+            return Ok(false);
+        }
         let (new, later) = after.split_once('|').unwrap_or((after, ""));
-        file = file.replacen(alloc, old, new, 1)?;
+        *file = file.replacen(alloc, old, new, 1)?;
+        if later.is_empty() {
+            return Ok(true);
+        }
         rest = later;
     }
-    Ok(file)
+    Ok(false)
 }
 
-fn lengthened(alloc: Global, file: &str, how: &str) -> Result<String, AllocError> {
-    let (count, text) = how.split_once(' ').unwrap_or((how, ""));
-    let count = count.parse::<u16>().unwrap_or(0);
+// Puts zeros behind a text; false where the file lacks this.
+fn lengthen(alloc: Global, file: &mut String, how: &str) -> Result<bool, AllocError> {
+    let Some((count, text)) = how.split_once(' ') else {
+        return Ok(false);
+    };
+    let Ok(count) = count.parse::<u16>() else {
+        return Ok(false);
+    };
+    if !file.contains(text) {
+        return Ok(false);
+    }
     let zeros = "0,".repeat(alloc, usize::from(count))?;
     let longer = format!(in alloc; "{text}{zeros}")?;
-    file.replacen(alloc, text, longer.as_str(), 1)
+    *file = file.replacen(alloc, text, &longer, 1)?;
+    Ok(true)
 }

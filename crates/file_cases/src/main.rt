@@ -10,6 +10,8 @@
 //! - `numbers`, `flags`, `order`, `drift N`, `commission N` write what a segment makes of it: its counts and lock
 //!   numbers, which rows are clocks and measure, the rows by position, and how many slaves a frame that is
 //!   listed as lost reaches.
+//! - Any other line, and one that changes a text which the file does not have: `unread`. A file that is refused
+//!   answers its refusal to all lines that ask for a part of it.
 #![tactic(auto)]
 
 mod cases;

@@ -1,42 +1,42 @@
 use segment_file::{SegError, ShapeTree};
 use segment_shape::ShapeError;
-use std::alloc::{AllocError, Global};
+use std::alloc::AllocError;
 
-/// A refusal of a shape, as the program writes it.
-pub(crate) fn shape_told(alloc: Global, error: &ShapeError) -> Result<String, AllocError> {
+/// Writes a refusal of a shape, as the program does.
+pub(crate) fn shape_told(error: &ShapeError, told: &mut String) -> Result<(), AllocError> {
     match error {
-        ShapeError::BadText => String::from_str(alloc, "not JSON"),
-        ShapeError::Shape(path) => format!(in alloc; "shape {path}"),
-        ShapeError::Twice(id) => format!(in alloc; "twice {id}"),
-        ShapeError::NoMemory => String::from_str(alloc, "no memory"),
+        ShapeError::BadText => told.push_str("not JSON"),
+        ShapeError::Shape(path) => write!(told, "shape {path}"),
+        ShapeError::Twice(id) => write!(told, "twice {id}"),
+        ShapeError::NoMemory => told.push_str("no memory"),
     }
 }
 
-/// A refusal of a segment.
-pub(crate) fn segment_told(alloc: Global, error: &SegError) -> Result<String, AllocError> {
+/// Writes a refusal of a segment.
+pub(crate) fn segment_told(error: &SegError, told: &mut String) -> Result<(), AllocError> {
     match error {
-        SegError::BadText => String::from_str(alloc, "not JSON"),
-        SegError::Shape(path) => format!(in alloc; "shape {path}"),
-        SegError::Twice(id) => format!(in alloc; "twice {id}"),
-        SegError::Tree(tree) => tree_told(alloc, *tree),
-        SegError::Rate(id) => format!(in alloc; "rate {id}"),
-        SegError::NoReference => String::from_str(alloc, "no reference"),
-        SegError::Unmeasurable(id) => format!(in alloc; "unmeasurable {id}"),
-        SegError::TooSlow => String::from_str(alloc, "too slow"),
-        SegError::NoLock => String::from_str(alloc, "no lock"),
-        SegError::Lead => String::from_str(alloc, "lead"),
-        SegError::LossRun(number) => format!(in alloc; "loss run {number}"),
-        SegError::TooMuch => String::from_str(alloc, "too much"),
-        SegError::NoMemory => String::from_str(alloc, "no memory"),
+        SegError::BadText => told.push_str("not JSON"),
+        SegError::Shape(path) => write!(told, "shape {path}"),
+        SegError::Twice(id) => write!(told, "twice {id}"),
+        SegError::Tree(tree) => tree_told(*tree, told),
+        SegError::Rate(id) => write!(told, "rate {id}"),
+        SegError::NoReference => told.push_str("no reference"),
+        SegError::Unmeasurable(id) => write!(told, "unmeasurable {id}"),
+        SegError::TooSlow => told.push_str("too slow"),
+        SegError::NoLock => told.push_str("no lock"),
+        SegError::Lead => told.push_str("lead"),
+        SegError::LossRun(number) => write!(told, "loss run {number}"),
+        SegError::TooMuch => told.push_str("too much"),
+        SegError::NoMemory => told.push_str("no memory"),
     }
 }
 
-fn tree_told(alloc: Global, tree: ShapeTree) -> Result<String, AllocError> {
+fn tree_told(tree: ShapeTree, told: &mut String) -> Result<(), AllocError> {
     match tree {
-        ShapeTree::Empty => String::from_str(alloc, "tree empty"),
-        ShapeTree::NoParent(row) => format!(in alloc; "tree no parent {row}"),
-        ShapeTree::TwoRoots(row) => format!(in alloc; "tree two roots {row}"),
-        ShapeTree::PortTaken(row) => format!(in alloc; "tree port taken {row}"),
-        ShapeTree::Cycle(row) => format!(in alloc; "tree cycle {row}"),
+        ShapeTree::Empty => told.push_str("tree empty"),
+        ShapeTree::NoParent(row) => write!(told, "tree no parent {row}"),
+        ShapeTree::TwoRoots(row) => write!(told, "tree two roots {row}"),
+        ShapeTree::PortTaken(row) => write!(told, "tree port taken {row}"),
+        ShapeTree::Cycle(row) => write!(told, "tree cycle {row}"),
     }
 }

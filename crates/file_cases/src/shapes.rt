@@ -1,76 +1,66 @@
+use crate::cases::UNREAD;
 use crate::refusals::shape_told;
 use esc_regs::ClockKind;
 use osc_clock::RateRow;
 use segment_shape::{Head, LossRow, Parent, Phase, Shape, ShapeRow, read_shape};
 use std::alloc::{AllocError, Global};
 
-/// Whether the file has a shape.
-pub(crate) fn answer(alloc: Global, file: &str) -> Result<String, AllocError> {
+/// Writes whether the file has a shape.
+pub(crate) fn read(alloc: Global, file: &str, told: &mut String) -> Result<(), AllocError> {
     match read_shape(alloc, file.as_bytes()) {
-        Ok(_shape) => String::from_str(alloc, "ok"),
-        Err(error) => shape_told(alloc, &error),
+        Ok(_shape) => told.push_str("ok"),
+        Err(error) => shape_told(&error, told),
     }
 }
 
-/// What the file says.
-pub(crate) fn told(
+/// Writes what the file says.
+pub(crate) fn tell(
     alloc: Global,
     file: &str,
-    word: &str,
-    rest: &str,
-) -> Result<String, AllocError> {
+    asked: (&str, &str),
+    told: &mut String,
+) -> Result<(), AllocError> {
     match read_shape(alloc, file.as_bytes()) {
-        Ok(shape) => shape_says(alloc, &shape, word, rest),
-        Err(error) => shape_told(alloc, &error),
+        Ok(shape) => part_told(&shape, asked, told),
+        Err(error) => shape_told(&error, told),
     }
 }
 
-fn shape_says(alloc: Global, shape: &Shape, word: &str, rest: &str) -> Result<String, AllocError> {
-    if word == "head" {
-        head_told(alloc, &shape.head)
-    } else if word == "row" {
-        let row = rest.parse::<usize>().unwrap_or(usize::MAX);
-        match shape.rows.get(row) {
-            Some(row) => row_told(alloc, row),
-            None => String::from_str(alloc, "no row"),
-        }
-    } else if word == "losses" {
-        losses_told(alloc, shape.losses.rows())
-    } else {
-        String::from_str(alloc, "no case")
+fn part_told(shape: &Shape, asked: (&str, &str), told: &mut String) -> Result<(), AllocError> {
+    match asked {
+        ("head", "") => head_told(&shape.head, told),
+        ("row", row) => match row.parse::<usize>() {
+            Ok(row) => match shape.rows.get(row) {
+                Some(row) => row_told(row, told),
+                None => told.push_str("no row"),
+            },
+            Err(_) => told.push_str(UNREAD),
+        },
+        ("losses", "") => losses_told(shape.losses.rows(), told),
+        _ => told.push_str(UNREAD),
     }
 }
 
-fn head_told(alloc: Global, head: &Head) -> Result<String, AllocError> {
-    let Head {
-        version,
-        ppm,
-        frame_ns,
-        speed,
-        loss_run,
-        epoch_ns,
-        cycle_ns,
-        cycles,
-    } = *head;
-    format!(in alloc;
-        "{version} {ppm} {frame_ns} {speed} {loss_run} {epoch_ns} {cycle_ns} {cycles}"
+fn head_told(head: &Head, told: &mut String) -> Result<(), AllocError> {
+    write!(
+        told,
+        "{} {} {} {}",
+        head.version, head.ppm, head.frame_ns, head.speed
+    )?;
+    write!(
+        told,
+        " {} {} {} {}",
+        head.loss_run, head.epoch_ns, head.cycle_ns, head.cycles
     )
 }
 
-fn row_told(alloc: Global, row: &ShapeRow) -> Result<String, AllocError> {
-    let place = format!(in alloc;
-        "{} {} {} {} {}",
-        row.id,
-        kind_name(row.kind),
-        row.tp_ns,
-        row.tf_ns,
-        row.cable_ps
-    )?;
-    let parent = parent_told(alloc, row.parent)?;
-    let ticks = format!(in alloc; "{} {} {}", row.start, row.phase_fs, row.period_fs)?;
-    let rates = rates_told(alloc, &row.rates)?;
-    let signals = signals_told(alloc, row.shift_ns, row.sync1_ns)?;
-    format!(in alloc; "{place} {parent} {ticks} {rates} {signals}")
+fn row_told(row: &ShapeRow, told: &mut String) -> Result<(), AllocError> {
+    write!(told, "{} {} {}", row.id, kind_name(row.kind), row.tp_ns)?;
+    write!(told, " {} {} ", row.tf_ns, row.cable_ps)?;
+    parent_told(row.parent, told)?;
+    write!(told, " {} {} {} ", row.start, row.phase_fs, row.period_fs)?;
+    rates_told(&row.rates, told)?;
+    signals_told(row.shift_ns, row.sync1_ns, told)
 }
 
 pub(crate) fn kind_name(kind: ClockKind) -> &'static str {
@@ -82,39 +72,39 @@ pub(crate) fn kind_name(kind: ClockKind) -> &'static str {
     }
 }
 
-fn parent_told(alloc: Global, parent: Option<Parent>) -> Result<String, AllocError> {
+fn parent_told(parent: Option<Parent>, told: &mut String) -> Result<(), AllocError> {
     match parent {
-        Some(parent) => format!(in alloc; "{}:{}", parent.id, parent.port),
-        None => String::from_str(alloc, "-"),
+        Some(parent) => write!(told, "{}:{}", parent.id, parent.port),
+        None => told.push_str("-"),
     }
 }
 
-pub(crate) fn rates_told(alloc: Global, rates: &[RateRow]) -> Result<String, AllocError> {
-    let mut told = String::from_str(alloc, "[")?;
+pub(crate) fn rates_told(rates: &[RateRow], told: &mut String) -> Result<(), AllocError> {
+    told.push_str("[")?;
     for rate in rates {
-        told = format!(in alloc; "{told} {}:{}", rate.tick, rate.period_fs)?;
+        write!(told, " {}:{}", rate.tick, rate.period_fs)?;
     }
-    format!(in alloc; "{told} ]")
+    told.push_str(" ]")
 }
 
 pub(crate) fn signals_told(
-    alloc: Global,
     shift_ns: u32,
     sync1_ns: Option<u32>,
-) -> Result<String, AllocError> {
+    told: &mut String,
+) -> Result<(), AllocError> {
     match sync1_ns {
-        Some(ns) => format!(in alloc; "{shift_ns} {ns}"),
-        None => format!(in alloc; "{shift_ns} -"),
+        Some(ns) => write!(told, " {shift_ns} {ns}"),
+        None => write!(told, " {shift_ns} -"),
     }
 }
 
-pub(crate) fn losses_told(alloc: Global, losses: &[LossRow]) -> Result<String, AllocError> {
-    let mut told = String::from_str(alloc, "[")?;
+pub(crate) fn losses_told(losses: &[LossRow], told: &mut String) -> Result<(), AllocError> {
+    told.push_str("[")?;
     for loss in losses {
         let phase = phase_name(loss.phase);
-        told = format!(in alloc; "{told} {phase}:{}:{}", loss.number, loss.after)?;
+        write!(told, " {phase}:{}:{}", loss.number, loss.after)?;
     }
-    format!(in alloc; "{told} ]")
+    told.push_str(" ]")
 }
 
 fn phase_name(phase: Phase) -> &'static str {

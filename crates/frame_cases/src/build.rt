@@ -1,92 +1,148 @@
-use crate::words::{bytes, head, number, parts};
-use anyhow::bail;
-use ecat_frame::{Builder, Frame};
-use std::alloc::Global;
+use crate::words::{Words, bytes_told};
+use ecat_frame::{Builder, Command, Frame, Head};
+use std::alloc::{AllocError, Global};
 
 /// What a builder answers to these datagrams, and the bytes of their frame after these changes.
-pub(crate) fn built(alloc: Global, words: &[&str]) -> anyhow::Result<String> {
+pub(crate) fn built(
+    alloc: Global,
+    words: &mut Words<'_>,
+    told: &mut String,
+) -> Result<(), AllocError> {
     let mut builder = Builder::new();
-    let mut text = String::new(alloc);
-    for word in words.iter().take_while(|word| **word != "/") {
-        text.push_str(pushed(alloc, &mut builder, word)?)?;
+    for _datagram in 0..words.most() {
+        match words.next() {
+            "/" | "" => break,
+            name => push(alloc, words, name, &mut builder, told)?,
+        }
     }
     let count = builder.count();
     if count == 0 {
-        bail!("a frame has a datagram");
+        words.refuse();
+        return Ok(());
     }
     let mut frame = builder.finish();
-    for word in words.iter().skip_while(|word| **word != "/").skip(1) {
-        change(alloc, &mut frame, word)?;
+    for _change in 0..words.most() {
+        if words.is_empty() {
+            break;
+        }
+        change(alloc, words, &mut frame)?;
     }
-    let bytes = hex::encode(alloc, frame.bytes())?;
-    Ok(format!(in alloc; "{text}{count} {bytes}")?)
+    write!(told, "{count} ")?;
+    bytes_told(frame.bytes(), told)
 }
 
-fn pushed(alloc: Global, builder: &mut Builder, word: &str) -> anyhow::Result<&'static str> {
-    let parts = parts(alloc, word)?;
-    let [command, index, adp, ado, data] = parts.as_slice() else {
-        bail!("a datagram is COMMAND:INDEX:ADP:ADO:BYTES")
+fn push(
+    alloc: Global,
+    words: &mut Words<'_>,
+    name: &str,
+    builder: &mut Builder,
+    told: &mut String,
+) -> Result<(), AllocError> {
+    let Some(command) = command(name) else {
+        words.refuse();
+        return Ok(());
     };
-    let head = head(command, index, adp, ado)?;
-    Ok(match builder.push(head, &bytes(alloc, data)?) {
+    let head = Head {
+        command,
+        index: words.number(0, 255) as u8,
+        adp: words.digits(),
+        ado: words.digits(),
+    };
+    let data = words.bytes(alloc)?;
+    told.push_str(match builder.push(head, &data) {
         Ok(()) => "ok ",
         Err(_full) => "full ",
     })
 }
 
-fn change(alloc: Global, frame: &mut Frame, word: &str) -> anyhow::Result<()> {
-    let parts = parts(alloc, word)?;
-    match parts.as_slice() {
-        [what, k, adp] if *what == "adp" => set_adp(frame, k.parse()?, number(adp)?),
-        [what, k, wkc] if *what == "wkc" => set_wkc(frame, k.parse()?, number(wkc)?),
-        [what, k, data] if *what == "data" => set_data(frame, k.parse()?, &bytes(alloc, data)?),
-        [what, k, at, part] if *what == "bytes" => {
-            set_bytes(frame, k.parse()?, at.parse()?, &bytes(alloc, part)?)
-        }
-        [what, k, adp, wkc, data] if *what == "answer" => {
-            let data = bytes(alloc, data)?;
-            set_answer(frame, k.parse()?, number(adp)?, &data, number(wkc)?)
-        }
-        _ => bail!("no change has this form"),
-    }
+fn command(name: &str) -> Option<Command> {
+    Some(match name {
+        "Nop" => Command::Nop,
+        "Aprd" => Command::Aprd,
+        "Apwr" => Command::Apwr,
+        "Aprw" => Command::Aprw,
+        "Fprd" => Command::Fprd,
+        "Fpwr" => Command::Fpwr,
+        "Fprw" => Command::Fprw,
+        "Brd" => Command::Brd,
+        "Bwr" => Command::Bwr,
+        "Brw" => Command::Brw,
+        "Lrd" => Command::Lrd,
+        "Lwr" => Command::Lwr,
+        "Lrw" => Command::Lrw,
+        "Armw" => Command::Armw,
+        "Frmw" => Command::Frmw,
+        _ => return None,
+    })
 }
 
-fn set_adp(frame: &mut Frame, k: usize, adp: u16) -> anyhow::Result<()> {
+fn change(alloc: Global, words: &mut Words<'_>, frame: &mut Frame) -> Result<(), AllocError> {
+    let what = words.next();
+    let k = words.number(0, 255) as usize;
     if k >= frame.count() {
-        bail!("no datagram has this number");
+        words.refuse();
+        return Ok(());
     }
-    frame.set_adp(k, adp);
+    match what {
+        "adp" => frame.set_adp(k, words.digits()),
+        "wkc" => frame.set_wkc(k, words.digits()),
+        "data" => return set_data(words.bytes(alloc)?, words, frame, k),
+        "bytes" => {
+            let at = words.number(0, 2048) as usize;
+            return set_bytes(words.bytes(alloc)?, words, frame, k, at);
+        }
+        "answer" => {
+            let (adp, wkc) = (words.digits(), words.digits());
+            return set_answer(words.bytes(alloc)?, words, frame, k, (adp, wkc));
+        }
+        _ => {
+            words.refuse();
+            return Ok(());
+        }
+    }
     Ok(())
 }
 
-fn set_wkc(frame: &mut Frame, k: usize, wkc: u16) -> anyhow::Result<()> {
-    if k >= frame.count() {
-        bail!("no datagram has this number");
-    }
-    frame.set_wkc(k, wkc);
-    Ok(())
-}
-
-fn set_data(frame: &mut Frame, k: usize, data: &[u8]) -> anyhow::Result<()> {
+fn set_data(
+    data: Vec<u8>,
+    words: &mut Words<'_>,
+    frame: &mut Frame,
+    k: usize,
+) -> Result<(), AllocError> {
     if k >= frame.count() || frame.datagram(k).payload.len() != data.len() {
-        bail!("no datagram has this number and length");
+        words.refuse();
+        return Ok(());
     }
-    frame.set_payload(k, data);
+    frame.set_payload(k, &data);
     Ok(())
 }
 
-fn set_bytes(frame: &mut Frame, k: usize, at: usize, part: &[u8]) -> anyhow::Result<()> {
+fn set_bytes(
+    part: Vec<u8>,
+    words: &mut Words<'_>,
+    frame: &mut Frame,
+    k: usize,
+    at: usize,
+) -> Result<(), AllocError> {
     if k >= frame.count() || at > 2048 || frame.datagram(k).payload.len() < at + part.len() {
-        bail!("no datagram has this number and room");
+        words.refuse();
+        return Ok(());
     }
-    frame.set_bytes(k, at, part);
+    frame.set_bytes(k, at, &part);
     Ok(())
 }
 
-fn set_answer(frame: &mut Frame, k: usize, adp: u16, data: &[u8], wkc: u16) -> anyhow::Result<()> {
+fn set_answer(
+    data: Vec<u8>,
+    words: &mut Words<'_>,
+    frame: &mut Frame,
+    k: usize,
+    (adp, wkc): (u16, u16),
+) -> Result<(), AllocError> {
     if k >= frame.count() || frame.datagram(k).payload.len() != data.len() {
-        bail!("no datagram has this number and length");
+        words.refuse();
+        return Ok(());
     }
-    frame.set_answer(k, adp, data, wkc);
+    frame.set_answer(k, adp, &data, wkc);
     Ok(())
 }

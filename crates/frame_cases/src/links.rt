@@ -1,34 +1,41 @@
-use crate::words::number;
-use anyhow::bail;
+use crate::words::Words;
 use ecat_frame::{Builder, Command, Frame, Head};
 use ecat_link::{Link, ScriptLink, ScriptReply};
-use std::alloc::Global;
+use std::alloc::{AllocError, Global};
 
 /// What a link with these replies does with a frame for each of them, and with two more.
-pub(crate) fn exchanges(alloc: Global, words: &[&str]) -> anyhow::Result<String> {
+pub(crate) fn exchanges(
+    alloc: Global,
+    words: &mut Words<'_>,
+    told: &mut String,
+) -> Result<(), AllocError> {
     let mut replies = Vec::new(alloc);
-    for word in words {
-        replies.push(reply(word)?)?;
+    for _reply in 0..words.most() {
+        if words.is_empty() {
+            break;
+        }
+        replies.push(reply(words))?;
     }
+    let frames = replies.len();
     let mut link = ScriptLink::new(replies);
-    let mut text = format!(in alloc; "{}", link.lost())?;
-    for _word in words {
-        text.push_str(exchange(alloc, &mut link)?.as_str())?;
+    write!(told, "{}", link.lost())?;
+    for _frame in 0..frames {
+        exchange(&mut link, told)?;
     }
-    text.push_str(exchange(alloc, &mut link)?.as_str())?;
-    text.push_str(exchange(alloc, &mut link)?.as_str())?;
-    Ok(text)
+    exchange(&mut link, told)?;
+    exchange(&mut link, told)
 }
 
-fn reply(word: &str) -> anyhow::Result<ScriptReply> {
-    if let Some(("give", ado)) = word.split_once(':') {
-        return Ok(ScriptReply::Give(question(number(ado)?)));
-    }
-    Ok(match word {
+fn reply(words: &mut Words<'_>) -> ScriptReply {
+    match words.next() {
+        "give" => ScriptReply::Give(question(words.digits())),
         "lose" => ScriptReply::Lose,
         "echo" => ScriptReply::Echo,
-        _ => bail!("a reply is lose, echo or give:ADO"),
-    })
+        _ => {
+            words.refuse();
+            ScriptReply::Lose
+        }
+    }
 }
 
 // A frame with one datagram, which asks for a byte.
@@ -47,12 +54,12 @@ fn question(ado: u16) -> Frame {
 }
 
 // The answer, the ADO that then stands in the frame, and the number of lost frames.
-fn exchange(alloc: Global, link: &mut ScriptLink) -> anyhow::Result<String> {
+fn exchange(link: &mut ScriptLink, told: &mut String) -> Result<(), AllocError> {
     let mut frame = question(0);
     let answer = link.exchange(1_000_000, &mut frame);
     let ado = frame.datagram(frame.count() - 1).head.ado;
-    Ok(match answer {
-        Ok(()) => format!(in alloc; "; came {ado:04x} {}", link.lost())?,
-        Err(lost) => format!(in alloc; "; {lost} {ado:04x} {}", link.lost())?,
-    })
+    match answer {
+        Ok(()) => write!(told, "; came {ado:04x} {}", link.lost()),
+        Err(lost) => write!(told, "; {lost} {ado:04x} {}", link.lost()),
+    }
 }

@@ -1,56 +1,60 @@
-use crate::words::{bytes, frame};
-use anyhow::bail;
+use crate::words::{Words, bytes_told};
 use ecat_frame::{Datagram, Frame};
-use std::alloc::Global;
+use std::alloc::{AllocError, Global};
 
 /// The frame of these bytes, or why they are none.
-pub(crate) fn read(alloc: Global, words: &[&str]) -> anyhow::Result<String> {
-    let [word] = words else {
-        bail!("a case is read BYTES")
-    };
-    match Frame::from_bytes(&bytes(alloc, word)?) {
-        Ok(frame) => text_of(alloc, &frame),
-        Err(error) => Ok(error.to_string(alloc)?),
+pub(crate) fn read(
+    alloc: Global,
+    words: &mut Words<'_>,
+    told: &mut String,
+) -> Result<(), AllocError> {
+    let bytes = words.bytes(alloc)?;
+    match Frame::from_bytes(&bytes) {
+        Ok(frame) => frame_told(&frame, told),
+        Err(error) => write!(told, "{error}"),
     }
 }
 
 // The number of bytes and of datagrams, and each of these.
-fn text_of(alloc: Global, frame: &Frame) -> anyhow::Result<String> {
-    let mut text = format!(in alloc; "{} bytes, {}", frame.bytes().len(), frame.count())?;
+fn frame_told(frame: &Frame, told: &mut String) -> Result<(), AllocError> {
+    write!(told, "{} bytes, {}", frame.bytes().len(), frame.count())?;
     for k in 0..frame.count() {
-        text.push_str(datagram_text(alloc, &frame.datagram(k))?.as_str())?;
+        datagram_told(&frame.datagram(k), told)?;
     }
-    Ok(text)
+    Ok(())
 }
 
 // Command, index, ADP, ADO, length word, IRQ, data and working counter.
-fn datagram_text(alloc: Global, datagram: &Datagram<'_>) -> anyhow::Result<String> {
+fn datagram_told(datagram: &Datagram<'_>, told: &mut String) -> Result<(), AllocError> {
     let head = datagram.head;
-    let data = match datagram.payload {
-        [] => String::from_str(alloc, "-")?,
-        payload => hex::encode(alloc, payload)?,
-    };
-    Ok(format!(in alloc;
-        "; {:?} {} {:04x} {:04x} {:04x} {:04x} {data} {}",
-        head.command,
-        head.index,
-        head.adp,
-        head.ado,
-        datagram.length_word,
-        datagram.irq,
-        datagram.wkc
-    )?)
+    write!(
+        told,
+        "; {:?} {} {:04x} {:04x}",
+        head.command, head.index, head.adp, head.ado
+    )?;
+    write!(told, " {:04x} {:04x} ", datagram.length_word, datagram.irq)?;
+    if datagram.payload.is_empty() {
+        write!(told, "-")?;
+    }
+    bytes_told(datagram.payload, told)?;
+    write!(told, " {}", datagram.wkc)
 }
 
 /// Where the second frame differs from the first.
-pub(crate) fn difference(alloc: Global, words: &[&str]) -> anyhow::Result<String> {
-    let [sent, reply] = words else {
-        bail!("a case is differ BYTES BYTES")
-    };
-    let sent = frame(alloc, sent)?;
-    let reply = frame(alloc, reply)?;
-    Ok(match sent.first_difference(&reply) {
-        Some(at) => format!(in alloc; "{at}")?,
-        None => String::from_str(alloc, "-")?,
-    })
+pub(crate) fn difference(
+    alloc: Global,
+    words: &mut Words<'_>,
+    told: &mut String,
+) -> Result<(), AllocError> {
+    let (sent, reply) = (words.bytes(alloc)?, words.bytes(alloc)?);
+    match (Frame::from_bytes(&sent), Frame::from_bytes(&reply)) {
+        (Ok(sent), Ok(reply)) => match sent.first_difference(&reply) {
+            Some(at) => write!(told, "{at}"),
+            None => write!(told, "-"),
+        },
+        _ => {
+            words.refuse();
+            Ok(())
+        }
+    }
 }

@@ -1,78 +1,139 @@
-use anyhow::bail;
-use ecat_frame::{Command, Frame, Head};
-use std::alloc::Global;
+ghost use Rattle.std.specs.Prelude.{◌≤◌};
 
-/// The words of a case behind the first one.
-pub(crate) fn rest<'a>(alloc: Global, line: &'a str) -> anyhow::Result<Vec<&'a str>> {
-    let mut words = Vec::new(alloc);
-    for word in line.split_whitespace().skip(1) {
-        words.push(word)?;
+use std::alloc::{AllocError, Global};
+
+/// A case that is read word by word. A word ends at a space, a colon or a comma.
+#[derive(Drop)]
+pub(crate) struct Words<'a> {
+    rest: &'a str,
+    is_refused: bool,
+}
+
+impl<'a> Words<'a> {
+    pub(crate) fn new(line: &'a str) -> Words<'a> {
+        Words {
+            rest: line,
+            is_refused: false,
+        }
     }
-    Ok(words)
-}
 
-/// The parts of a word between colons.
-pub(crate) fn parts<'a>(alloc: Global, word: &'a str) -> anyhow::Result<Vec<&'a str>> {
-    let mut parts = Vec::new(alloc);
-    for part in word.split(':') {
-        parts.push(part)?;
+    /// The next word, which is empty at the end of the case.
+    pub(crate) fn next(&mut self) -> &'a str {
+        let (word, rest) = self
+            .rest
+            .split_once([' ', ':', ','])
+            .unwrap_or((self.rest, ""));
+        self.rest = rest;
+        word
     }
-    Ok(parts)
-}
 
-/// Bytes in hexadecimal digits, or the same ones a number of times, or none.
-pub(crate) fn bytes(alloc: Global, word: &str) -> anyhow::Result<Vec<u8>> {
-    if word == "-" {
-        return Ok(Vec::new(alloc));
+    /// The words up to the next space.
+    pub(crate) fn next_group(&mut self) -> &'a str {
+        let (group, rest) = self.rest.split_once(' ').unwrap_or((self.rest, ""));
+        self.rest = rest;
+        group
     }
-    let Some((digits, times)) = word.split_once('*') else {
-        return Ok(hex::decode(alloc, word)?);
-    };
-    let part = hex::decode(alloc, digits)?;
-    let mut bytes = Vec::new(alloc);
-    for _time in 0..times.parse::<u16>()? {
-        bytes.extend_from_slice(&part)?;
+
+    /// Leaves all words that are left unread.
+    pub(crate) fn skip_all(&mut self) {
+        self.rest = "";
     }
-    Ok(bytes)
+
+    /// A bound on the number of words that are left.
+    pub(crate) fn most(&self) -> usize {
+        self.rest.len()
+    }
+
+    pub(crate) fn is_empty(&self) -> bool {
+        self.rest.is_empty()
+    }
+
+    /// Notes a word that is none of those that may stand there; nothing is told of such a case.
+    pub(crate) fn refuse(&mut self) {
+        self.is_refused = true;
+    }
+
+    /// Whether the case was read to its end, and no word was refused.
+    pub(crate) fn are_read(&self) -> bool {
+        !self.is_refused && self.rest.is_empty()
+    }
+
+    /// A number from `least` to `most`. Any other word is refused.
+    pub(crate) fn number(&mut self, least: u64, most: u64) -> u64
+        requires { least ≤ most }
+        ensures { (least ≤ result) × (result ≤ most) }
+    {
+        match self.next().parse::<u64>() {
+            Ok(number) if least <= number && number <= most => number,
+            _ => {
+                self.refuse();
+                least
+            }
+        }
+    }
+
+    /// A number of 16 bits in hexadecimal digits. Any other word is refused.
+    pub(crate) fn digits(&mut self) -> u16 {
+        match u16::from_str_radix(self.next(), 16) {
+            Ok(number) => number,
+            Err(_) => {
+                self.refuse();
+                0
+            }
+        }
+    }
+
+    /// A difference of 32 bits. Any other word is refused.
+    pub(crate) fn difference(&mut self) -> i32 {
+        match self.next().parse() {
+            Ok(number) => number,
+            Err(_) => {
+                self.refuse();
+                0
+            }
+        }
+    }
+
+    /// A number, or `-` for none. Any other word is refused.
+    pub(crate) fn number_or_none(&mut self) -> Option<u64> {
+        match self.next() {
+            "-" => None,
+            word => match word.parse() {
+                Ok(number) => Some(number),
+                Err(_) => {
+                    self.refuse();
+                    None
+                }
+            },
+        }
+    }
+
+    /// Bytes in hexadecimal digits, or the same ones a number of times, or none. Any other word is refused.
+    pub(crate) fn bytes(&mut self, alloc: Global) -> Result<Vec<u8>, AllocError> {
+        let word = self.next();
+        if word == "-" {
+            return Ok(Vec::new(alloc));
+        }
+        let (digits, times) = word.split_once('*').unwrap_or((word, "1"));
+        let Ok(times) = times.parse::<u16>() else {
+            self.refuse();
+            return Ok(Vec::new(alloc));
+        };
+        let digits = digits.repeat(alloc, usize::from(times))?;
+        match hex::decode(alloc, &digits) {
+            Ok(bytes) if !word.is_empty() => Ok(bytes),
+            _ => {
+                self.refuse();
+                Ok(Vec::new(alloc))
+            }
+        }
+    }
 }
 
-/// The frame that a case speaks of.
-pub(crate) fn frame(alloc: Global, word: &str) -> anyhow::Result<Frame> {
-    Ok(Frame::from_bytes(&bytes(alloc, word)?)?)
-}
-
-/// An address or a working counter, in hexadecimal digits.
-pub(crate) fn number(word: &str) -> anyhow::Result<u16> {
-    Ok(u16::from_str_radix(word, 16)?)
-}
-
-/// The head of a datagram.
-pub(crate) fn head(name: &str, index: &str, adp: &str, ado: &str) -> anyhow::Result<Head> {
-    Ok(Head {
-        command: command(name)?,
-        index: index.parse()?,
-        adp: number(adp)?,
-        ado: number(ado)?,
-    })
-}
-
-fn command(name: &str) -> anyhow::Result<Command> {
-    Ok(match name {
-        "Nop" => Command::Nop,
-        "Aprd" => Command::Aprd,
-        "Apwr" => Command::Apwr,
-        "Aprw" => Command::Aprw,
-        "Fprd" => Command::Fprd,
-        "Fpwr" => Command::Fpwr,
-        "Fprw" => Command::Fprw,
-        "Brd" => Command::Brd,
-        "Bwr" => Command::Bwr,
-        "Brw" => Command::Brw,
-        "Lrd" => Command::Lrd,
-        "Lwr" => Command::Lwr,
-        "Lrw" => Command::Lrw,
-        "Armw" => Command::Armw,
-        "Frmw" => Command::Frmw,
-        _ => bail!("no command has this name"),
-    })
+/// Writes bytes as hexadecimal digits.
+pub(crate) fn bytes_told(bytes: &[u8], told: &mut String) -> Result<(), AllocError> {
+    for byte in bytes {
+        write!(told, "{byte:02x}")?;
+    }
+    Ok(())
 }

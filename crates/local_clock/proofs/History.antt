@@ -1,12 +1,14 @@
 -- A clock by its history.
-use Rattle.std.specs.Prelude.{◌≡◌, ℕ, ◌+◌, ◌<◌, ◌≤◌, List, [], ◌∷◌, ◌++◌, true, false, nat_le}
-use Rattle.std.proofs.Common.{arith, rules, refl, ap, ◌∙◌, inl, inr}
+use Rattle.std.specs.Prelude.{◌≡◌, ℕ, ◌+◌, ◌^◌, ◌<◌, ◌≤◌, List, [], ◌∷◌, ◌++◌, true, false, nat_le}
+use Rattle.std.proofs.Common.{arith, rules, refl, sym, ap, ◌∙◌, inl, inr}
 use Rattle.std.proofs.lemmas.Bool.{cases_lt}
 use Rattle.std.proofs.lemmas.Bool.Decides.{nat_tests}
+use Rattle.std.proofs.lemmas.Nat.{pow_pos}
 use Rattle.std.proofs.lemmas.List.Elements.{All-head, All-tail}
+use Rattle.std.proofs.Math.Nat.{mod-lt}
 use Rattle.osc_clock.specs.Ticks.{IsRunning}
 use Rattle.local_clock.specs.Reading.{Clock, Event, Happening, received, reset, after_event, advanced, clock_at, AreUntil, AreInOrder}
-use Rattle.local_clock.proofs.ManyTicks.{advanced_twice}
+use Rattle.local_clock.proofs.ManyTicks.{advanced_twice, advanced_here}
 
 pub is_until : (s t : ℕ) → s ≤ t → nat_le s t ≡ true
 is_until s t le = search (rules, nat_tests)
@@ -22,6 +24,10 @@ event_instant (reset g) c = refl
 pub event_osc : (e : Event) (c : Clock) → (after_event e c).osc ≡ c.osc
 event_osc (received d) c = refl
 event_osc (reset g) c = refl
+
+pub event_reading : (e : Event) (c : Clock) → (after_event e c).reading ≡ c.reading
+event_reading (received d) c = refl
+event_reading (reset g) c = refl
 
 -- an advance on the way changes nothing
 on_the_way : (w s t : ℕ) (c : Clock) (events : List Happening) → IsRunning c.osc → c.instant ≤ s → s ≤ t → AreInOrder s events
@@ -83,3 +89,23 @@ stands w t c (h ∷ rest) =
           rw e (there.0, there.1 ∙ event_osc h.event a)
       | inl after ↦ let e = is_after h.instant t after in rw e (refl, refl)
     ]
+
+-- its reading is a word
+pub fits : (w t : ℕ) (c : Clock) (events : List Happening) → (clock_at w c events t).reading < 2 ^ w
+fits w t c [] = mod-lt _ (pow_pos w)
+fits w t c (h ∷ rest) = elim (cases_lt t h.instant) [
+  | inr until ↦
+      let e = is_until h.instant t until in
+      rw e (fits w t (after_event h.event (advanced w h.instant c)) rest)
+  | inl after ↦ let e = is_after h.instant t after in rw e (mod-lt _ (pow_pos w))
+]
+
+-- what an event does at its own instant
+pub at_once : (w : ℕ) (c : Clock) (events : List Happening) (h : Happening) → AreUntil h.instant events
+    → clock_at w c (events ++ h ∷ []) h.instant ≡ after_event h.event (clock_at w c events h.instant)
+at_once w c events h until =
+    let before = clock_at w c events h.instant in
+    let after = after_event h.event before in
+    let at : after.instant ≡ h.instant = event_instant h.event before ∙ (stands w h.instant c events).0 in
+    let word : after.reading < 2 ^ w = rw (event_reading h.event before) (fits w h.instant c events) in
+    one_more w h.instant c events h until (omega arith) ∙ ap (λ t. advanced w t after) (sym at) ∙ advanced_here w after word

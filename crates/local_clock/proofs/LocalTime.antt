@@ -1,22 +1,18 @@
 -- The local time without wrap.
-use Rattle.std.specs.Prelude.{◌≡◌, ℕ, ◌+◌, ◌-◌, ◌*◌, ◌%◌, ◌/◌, ◌^◌, ◌<◌, ◌≤◌, List, [], ◌∷◌, ◌++◌}
+use Rattle.std.specs.Prelude.{◌≡◌, ℕ, ◌+◌, ◌-◌, ◌*◌, ◌%◌, ◌^◌, ◌<◌, ◌≤◌, List, [], ◌∷◌, ◌++◌}
 use Rattle.std.proofs.Common.{arith, refl, sym, ap, ◌∙◌, inl, inr}
 use Rattle.std.proofs.lemmas.Bool.{cases_lt}
-use Rattle.std.proofs.lemmas.Nat.{pow_pos}
 use Rattle.std.proofs.lemmas.List.Elements.{All-head, All-tail}
-use Rattle.std.proofs.Math.Nat.{mod-add-mod, mod-eq_of_lt, add-mul-mod_self_left}
+use Rattle.std.proofs.Math.Nat.{mod-add-mod}
+use Rattle.wrap_time.specs.WordLess.{word_less}
+use Rattle.wrap_time.proofs.Cuts.{latched_difference, offset_sum}
 use Rattle.osc_clock.specs.Ticks.{IsRunning, ticks}
 use Rattle.osc_clock.proofs.TickLaws.{ticks_rise}
 use Rattle.local_clock.specs.StepRule.{steered, elapsed}
 use Rattle.local_clock.specs.Reading.{Clock, Event, Happening, received, reset, after_event, advanced, clock_at, reading_at, steering_of, ticks_to, AreUntil, AreInOrder}
 use Rattle.local_clock.specs.LocalTime.{whole_advanced, whole_clock_at, local_time, cut_to}
 use Rattle.local_clock.proofs.ManyTicks.{steered_splits, elapsed_splits, ticks_on, speed_least, speed_most}
-use Rattle.local_clock.proofs.History.{is_until, is_after, event_instant, event_osc}
-
--- an event moves no hand
-event_reading : (e : Event) (c : Clock) → (after_event e c).reading ≡ c.reading
-event_reading (received d) c = refl
-event_reading (reset g) c = refl
+use Rattle.local_clock.proofs.History.{is_until, is_after, event_instant, event_osc, event_reading}
 
 event_cut : (w : ℕ) (e : Event) (c : Clock) → after_event e (cut_to w c) ≡ cut_to w (after_event e c)
 event_cut w (received d) c = refl
@@ -168,31 +164,19 @@ rises s t k c (h ∷ rest) run early late order is =
     ]
 
 -- the words of two times less than the range apart
-apart_words : (m x y : ℕ) → 0 < m → x ≤ y → y < x + m → (y % m + (m - x % m)) % m ≡ y - x
-apart_words m x y some le near =
-    let e : y + (m - x % m) ≡ (y - x) + m * (x / m + 1) = omega arith in
-    mod-add-mod y m (m - x % m) ∙ ap (λ n. n % m) e ∙ add-mul-mod_self_left (y - x) m (x / m + 1) ∙ mod-eq_of_lt (omega (arith, le, near))
-
 pub apart : (w s t : ℕ) (c : Clock) (events : List Happening) → local_time c events s ≤ local_time c events t
     → local_time c events t < local_time c events s + 2 ^ w
-    → (reading_at w c events t + (2 ^ w - reading_at w c events s)) % 2 ^ w ≡ local_time c events t - local_time c events s
+    → word_less w (reading_at w c events t) (reading_at w c events s) ≡ local_time c events t - local_time c events s
 apart w s t c events le near =
     let now = reading_is w t c events in
     let then = reading_is w s c events in
-    rw (now, then) (apart_words (2 ^ w) (local_time c events s) (local_time c events t) (pow_pos w) le near)
+    rw (now, then) (latched_difference w (local_time c events s) (local_time c events t) le near)
 
--- an offset that brings a word to n at x
-offset_words : (m n x y : ℕ) → 0 < m → x ≤ y → (y % m + (n + (m - x % m)) % m) % m ≡ (n + (y - x)) % m
-offset_words m n x y some le =
-    let turned : y + (n + (m - x % m)) % m ≡ (n + (m - x % m)) % m + y = omega arith in
-    let e : n + (m - x % m) + y ≡ (n + (y - x)) + m * (x / m + 1) = omega arith in
-    mod-add-mod y m ((n + (m - x % m)) % m) ∙ ap (λ k. k % m) turned ∙ mod-add-mod (n + (m - x % m)) m y
-    ∙ ap (λ k. k % m) e ∙ add-mul-mod_self_left (n + (y - x)) m (x / m + 1)
-
+-- an offset that brings a word to n
 pub with_offset : (w n s t : ℕ) (c : Clock) (events : List Happening) → local_time c events s ≤ local_time c events t
-    → (reading_at w c events t + (n + (2 ^ w - reading_at w c events s)) % 2 ^ w) % 2 ^ w
+    → (reading_at w c events t + word_less w n (reading_at w c events s)) % 2 ^ w
     ≡ (n + (local_time c events t - local_time c events s)) % 2 ^ w
 with_offset w n s t c events le =
     let now = reading_is w t c events in
     let then = reading_is w s c events in
-    rw (now, then) (offset_words (2 ^ w) n (local_time c events s) (local_time c events t) (pow_pos w) le)
+    rw (now, then) (offset_sum w n (local_time c events s % 2 ^ w) (local_time c events t) (local_time c events s) le refl)

@@ -1,8 +1,8 @@
 -- What the tick by tick definitions say of any number of ticks.
-use Rattle.std.specs.Prelude.{◌≡◌, ℕ, suc, zero, ◌+◌, ◌-◌, ◌*◌, ◌%◌, ◌^◌, ◌≤◌, ℤ, pos, negsuc, ◌+ℤ◌, Bool, true, false, nat_le}
+use Rattle.std.specs.Prelude.{◌≡◌, ℕ, suc, zero, ◌+◌, ◌-◌, ◌*◌, ◌%◌, ◌^◌, ◌<◌, ◌≤◌, ℤ, pos, negsuc, ◌+ℤ◌, Bool, true, false, nat_le}
 use Rattle.std.proofs.Common.{arith, sym, ap, ◌∙◌, refl, add-zero, add-suc}
 use Rattle.std.proofs.lemmas.Int.{ints}
-use Rattle.std.proofs.Math.Nat.{mod-add-mod}
+use Rattle.std.proofs.Math.Nat.{mod-add-mod, mod-eq_of_lt}
 use Rattle.osc_clock.specs.Ticks.{IsRunning, ticks}
 use Rattle.osc_clock.proofs.TickLaws.{ticks_rise, ticks_at}
 use Rattle.local_clock.specs.StepRule.{Steering, nearer, corrected_step, step, next_of, next, steered, elapsed}
@@ -72,6 +72,13 @@ advanced_tick w t k c run late =
     let rise = ticks_rise c.osc c.instant t run late in
     let e : ticks c.osc t + k ≡ ticks c.osc c.instant + (ticks_to c t + k) = omega (arith, rise) in
     rw e refl
+
+-- an advance to where it stands is none
+pub advanced_here : (w : ℕ) (c : Clock) → c.reading < 2 ^ w → advanced w c.instant c ≡ c
+advanced_here w c word =
+    let none : ticks_to c c.instant ≡ 0 = omega arith in
+    let same : (c.reading + 0) % 2 ^ w ≡ c.reading = mod-eq_of_lt (omega (arith, word)) ∙ omega arith in
+    rw (none, same) refl
 
 -- two advances are one
 pub advanced_twice : (w s t : ℕ) (c : Clock) → IsRunning c.osc → c.instant ≤ s → s ≤ t → advanced w t (advanced w s c) ≡ advanced w t c

@@ -1,5 +1,6 @@
-ghost use Rattle.std.specs.Prelude.{◌≡◌, ℕ, ◌+◌, ◌<◌, ◌≤◌, pos, ⊤, IfSome};
-ghost use Rattle.local_clock.specs.Reading.{advanced, corrected, reset_to, started, ticks_to};
+ghost use Rattle.std.specs.Prelude.{◌≡◌, ℕ, ◌+◌, ◌^◌, ◌<◌, ◌≤◌, pos, ⊤, IfSome, unsigned_abs};
+ghost use Rattle.local_clock.specs.Reading.{advanced, corrected, reset_to, started, steering_of, ticks_to};
+ghost use Rattle.local_clock.specs.WorkedOff.{IsSteady};
 ghost use Rattle.osc_clock.specs.Ticks.{IsRunning};
 ghost use Rattle.local_clock.specs.FirstReaching.{IsFirstReaching, tick_after, within_time};
 
@@ -96,6 +97,16 @@ impl<W: ClockWord> LocalClock<W> {
         ensures { result ≡ self.now.left }
     {
         self.left
+    }
+
+    /// Nothing to run: it says for proofs in which ranges every clock stays.
+    pub fn in_range(&self)
+        ensures steady { IsSteady self.now.g (steering_of self.now) }
+        ensures left { unsigned_abs self.now.left ≤ 2 ^ 31 }
+        ensures word { self.now.reading < 2 ^ W.WIDTH }
+        ensures running { IsRunning self.now.osc }
+    {
+        let _ = self.reading.value();
     }
 
     /// The true time of the next tick, in fs; `None` where that is above 2^64 - 1.

@@ -3,6 +3,7 @@
 ghost use Rattle.std.specs.Prelude.{◌≡◌, ℕ, suc, ◌+◌, ◌-◌, ◌*◌, ◌/◌, ◌%◌, ◌^◌, ◌<◌, ◌≤◌, ◌+ℤ◌, pos, ℤ, List, [], ◌∷◌, ◌++◌, min, nat_lt, unsigned_abs};
 ghost use Rattle.std.specs.List.{All};
 ghost use Rattle.wrap_time.specs.NearNumbers.{AreNear};
+ghost use Rattle.wrap_time.specs.WordLess.{word_less};
 ghost use Rattle.osc_clock.specs.Ticks.{Oscillator, IsRunning, ticks};
 ghost use Rattle.local_clock.specs.StepRule.{Steering, next, step, steered, elapsed};
 ghost use Rattle.local_clock.specs.WorkedOff.{IsSteady, IsTowardZero};
@@ -40,8 +41,9 @@ pub fn ticks_in_turn()
 {}
 
 /// A clock that is advanced twice stands where one advance takes it, and shows and does from there
-/// what it would have shown and done.
+/// what it would have shown and done. To where it stands it is not moved.
 pub fn advances_in_turn()
+    ensures here { (w : ℕ) → (c : Clock) → c.reading < 2 ^ w → advanced w c.instant c ≡ c }
     ensures twice { (w s t : ℕ) → (c : Clock) → IsRunning c.osc → c.instant ≤ s → s ≤ t → advanced w t (advanced w s c) ≡ advanced w t c }
     ensures reading { (w t k : ℕ) → (c : Clock) → reading_after w (advanced w t c) k ≡ reading_after w c (ticks_to c t + k) }
     ensures tick { (w t k : ℕ) → (c : Clock) → IsRunning c.osc → c.instant ≤ t → tick_after (advanced w t c) k ≡ tick_after c (ticks_to c t + k) }
@@ -64,15 +66,19 @@ pub fn nothing_left()
 {}
 
 /// A clock by its history is what the calls make of it, however often it is advanced in between; the
-/// last event comes after all that was before it, and events after t are none yet.
+/// last event comes after all that was before it, and at its own instant it is all that happens; events
+/// after t are none yet. What it shows is below 2^w.
 pub fn history()
     ensures in_turn { (w s t : ℕ) → (c : Clock) → (before later : List Happening) → IsRunning c.osc → c.instant ≤ s → s ≤ t
         → AreUntil s before → AreInOrder s later → clock_at w (clock_at w c before s) later t ≡ clock_at w c (before ++ later) t }
     ensures one_more { (w t : ℕ) → (c : Clock) → (events : List Happening) → (h : Happening) → AreUntil h.instant events → h.instant ≤ t
         → clock_at w c (events ++ h ∷ []) t ≡ advanced w t (after_event h.event (clock_at w c events h.instant)) }
+    ensures at_once { (w : ℕ) → (c : Clock) → (events : List Happening) → (h : Happening) → AreUntil h.instant events
+        → clock_at w c (events ++ h ∷ []) h.instant ≡ after_event h.event (clock_at w c events h.instant) }
     ensures not_yet { (w t : ℕ) → (c : Clock) → (before later : List Happening) → AreInOrder (t + 1) later
         → clock_at w c (before ++ later) t ≡ clock_at w c before t }
     ensures stands { (w t : ℕ) → (c : Clock) → (events : List Happening) → ((clock_at w c events t).instant ≡ t) × ((clock_at w c events t).osc ≡ c.osc) }
+    ensures fits { (w t : ℕ) → (c : Clock) → (events : List Happening) → reading_at w c events t < 2 ^ w }
 {}
 
 /// What a clock of w bits shows is the cut of its local time without wrap, and all else of it is the same.
@@ -93,9 +99,9 @@ pub fn local_time_is_cut()
 pub fn words_of_local_time()
     ensures apart { (w s t : ℕ) → (c : Clock) → (events : List Happening) → local_time c events s ≤ local_time c events t
         → local_time c events t < local_time c events s + 2 ^ w
-        → (reading_at w c events t + (2 ^ w - reading_at w c events s)) % 2 ^ w ≡ local_time c events t - local_time c events s }
+        → word_less w (reading_at w c events t) (reading_at w c events s) ≡ local_time c events t - local_time c events s }
     ensures offset { (w n s t : ℕ) → (c : Clock) → (events : List Happening) → local_time c events s ≤ local_time c events t
-        → (reading_at w c events t + (n + (2 ^ w - reading_at w c events s)) % 2 ^ w) % 2 ^ w
+        → (reading_at w c events t + word_less w n (reading_at w c events s)) % 2 ^ w
         ≡ (n + (local_time c events t - local_time c events s)) % 2 ^ w }
 {}
 

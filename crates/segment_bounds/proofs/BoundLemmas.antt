@@ -3,11 +3,12 @@ use Rattle.std.specs.Prelude.{◌≡◌, ◌↔◌, ℕ, ◌+◌, ◌*◌, ◌<�
 use Rattle.std.proofs.Common.{arith, refl, sym, ◌∙◌}
 use Rattle.std.proofs.lemmas.Bool.Decides.{nat_tests}
 use Rattle.std.proofs.lemmas.List.{length-map}
-use Rattle.cable_tree.specs.PathSums.{round_trip}
+use Rattle.cable_tree.specs.PathSums.{arrive, round_trip}
 use Rattle.cable_tree.proofs.Members.{inside}
 use Rattle.dc_bounds.specs.LockNumbers.{period_fs}
 use Rattle.dc_bounds.specs.TickBounds.{tick_gap}
 use Rattle.dc_bounds.specs.CopyBound.{copy_bound}
+use Rattle.dc_bounds.proofs.FirstClock.{reference_first}
 use Rattle.dc_bounds.proofs.Growth.{quarter}
 use Rattle.dc_bounds.proofs.WeightSize.{weight_few}
 use Rattle.dc_bounds.proofs.Weightless.{boundless, weightless}
@@ -94,3 +95,13 @@ copyless_at s r = by (nat_eq r (reference_of s)) refl
 pub no_delay_at : (s : SegmentValue) → delay_at s (reference_of s) ≡ 0
 unfolding delay_at
 no_delay_at s = omega arith
+
+-- the arrival at the reference comes first, and the two lie within a round trip
+pub delay_apart : (s : SegmentValue) (r : ℕ) → IsLegal s → r < length s.rows → clock_at s.rows r ≡ true
+    → arrive (tree_rows s.rows) (reference_of s) + delay_at s r ≡ arrive (tree_rows s.rows) r
+unfolding delay_at
+delay_apart s r legal low clock =
+    omega (arith, reference_first (tree_rows s.rows) legal.tree.tree legal.tree.slaves (clock_at s.rows) (reference_of s) (some_reference s legal) r (omega (arith, low, rows_many s)) clock)
+
+pub delay_short : (s : SegmentValue) (r : ℕ) → IsLegal s → r < length s.rows → delay_at s r < period_fs s.head.frame_ns
+delay_short s r legal low = omega (arith, short_delay s r legal low, legal_round_trip s legal)

@@ -1,15 +1,17 @@
 -- The signals of a segment, one row on, and the greatest window of their pairs.
-use Rattle.std.specs.Prelude.{◌≡◌, ℕ, ◌+◌, ◌<◌, max, List, [], ◌∷◌, ◌++◌, length, map, drop, slice_index_or}
+use Rattle.std.specs.Prelude.{◌≡◌, ℕ, suc, ◌+◌, ◌<◌, max, Bool, true, false, if◌then◌else◌, List, [], ◌∷◌, ◌++◌, length, map, drop, slice_index_or, Option, Some, None, is_some}
 use Rattle.std.specs.List.{All}
 use Rattle.std.proofs.Common.{ap, sym, subst, refl, ◌∙◌, add-one, arith}
 use Rattle.std.proofs.Math.Seq.{drop-cons}
-use Rattle.std.proofs.lemmas.List.{get_or-map, length-map, map-append}
-use Rattle.std.proofs.lemmas.List.Elements.{All-get_or}
-use Rattle.segment_file.specs.Segment.{RowValue, SegmentValue}
+use Rattle.std.proofs.lemmas.List.{get_or-map, length-append, length-map, map-append}
+use Rattle.std.proofs.lemmas.List.Elements.{All-get_or, All-head, All-tail}
+use Rattle.segment_file.specs.Segment.{RowValue, SegmentValue, is_clock, signals}
+use Rattle.segment_file.specs.Legal.{IsClock, IsLegal}
+use Rattle.segment_file.proofs.CountLemmas.{count_by-cons}
 use Rattle.segment_file.specs.Seen.{row_seen}
 use Rattle.segment_file.specs.declared.slave_row.SlaveRow.{SlaveRow}
 use Rattle.segment_bounds.specs.Bounded.{bounded, bounded_window}
-use Rattle.segment_bounds.specs.Window.{signals_at, signals_from, greatest_with, greatest, window_of}
+use Rattle.segment_bounds.specs.Window.{signal, sync1_at, signals_at, signals_from, greatest_with, greatest, window_of}
 
 signals_step : (rows : List RowValue) (i : ℕ) (d : RowValue) → i < length rows
     → signals_from i (drop i rows) ≡ signals_at i (slice_index_or rows i d) ++ signals_from (i + 1) (drop (i + 1) rows)
@@ -49,3 +51,23 @@ greatest_map f number (a ∷ as') =
 pub greatest_of_segment : (s : SegmentValue) → greatest (bounded_window s.head.ppm) (map (bounded s) (signals_from 0 s.rows)) ≡ window_of s
 unfolding window_of
 greatest_of_segment s = greatest_map (bounded s) (bounded_window s.head.ppm) (signals_from 0 s.rows)
+
+-- ---- how many signals there are
+
+count_by_flags : (i shift_ns : ℕ) (clock : Bool) (sync1_ns : Option ℕ) → (clock ≡ false → sync1_ns ≡ None)
+    → length (if clock then signal i shift_ns ∷ sync1_at i shift_ns sync1_ns else []) ≡ (if clock then 1 else 0) + (if is_some sync1_ns then 1 else 0)
+count_by_flags i shift_ns true None none = refl
+count_by_flags i shift_ns true (Some ns) none = refl
+count_by_flags i shift_ns false None none = refl
+count_by_flags i shift_ns false (Some ns) none = absurd (let e = none refl in cc)
+
+pub counted_signals : (i cycle_ns : ℕ) (rows : List RowValue) → All (IsClock cycle_ns) rows → length (signals_from i rows) ≡ signals rows
+unfolding signals_from
+counted_signals i cycle_ns [] clocks = refl
+counted_signals i cycle_ns (row ∷ rows) clocks =
+    let one = count_by_flags i row.shift_ns (is_clock row) row.sync1_ns (λ e. ((All-head (IsClock cycle_ns) row rows clocks).signalless e).1) in
+    let rest = counted_signals (suc i) cycle_ns rows (All-tail (IsClock cycle_ns) row rows clocks) in
+    omega (arith, length-append (signals_at i row) (signals_from (suc i) rows), one, rest, count_by-cons is_clock row rows, count_by-cons (λ r. is_some r.sync1_ns) row rows)
+
+pub legal_signals : (s : SegmentValue) → IsLegal s → length (signals_from 0 s.rows) ≡ signals s.rows
+legal_signals s legal = counted_signals 0 s.head.cycle_ns s.rows legal.clocks

@@ -1,10 +1,11 @@
 //! Laws over the definitions alone, for proofs of the layers above.
 
-ghost use Rattle.std.specs.Prelude.{◌≡◌, ◌↔◌, ℕ, ◌+◌, ◌*◌, ◌<◌, ◌≤◌, ◌⊎◌, Some, length, slice_index_or};
+ghost use Rattle.std.specs.Prelude.{◌≡◌, ◌↔◌, ℕ, ◌+◌, ◌*◌, ◌<◌, ◌≤◌, ◌⊎◌, Some, true, length, slice_index_or};
+ghost use Rattle.cable_tree.specs.PathSums.{arrive};
 ghost use Rattle.dc_bounds.specs.LockNumbers.{period_fs};
 ghost use Rattle.dc_bounds.specs.TickBounds.{tick_gap};
 ghost use Rattle.segment_file.specs.Legal.{IsLegal};
-ghost use Rattle.segment_file.specs.Segment.{SegmentValue, reference_row};
+ghost use Rattle.segment_file.specs.Segment.{SegmentValue, clock_at, reference_row, signals, tree_rows};
 ghost use Rattle.segment_bounds.specs.Bounds.{copy_bound_at, delay_at, delay_bound_at, reference_of, weight_at};
 ghost use Rattle.segment_bounds.specs.Window.{signals_from, window_between, window_of};
 ghost use Rattle.segment_bounds.specs.declared.signal.Signal.{Signal};
@@ -34,4 +35,17 @@ pub fn the_window_is_the_greatest()
     ensures one { (s : SegmentValue) (d : Signal) → (window_of s ≡ 0) ⊎ ((i j : ℕ) × (i < j) × (j < length (signals_from 0 s.rows))
         × (window_of s ≡ window_between s (slice_index_or (signals_from 0 s.rows) i d) (slice_index_or (signals_from 0 s.rows) j d))) }
     ensures either_order { (s : SegmentValue) (a b : Signal) → window_between s a b ≡ window_between s b a }
+{}
+
+/// A frame reaches a clock by the true delay after the reference, and the true delay at a row is less than a
+/// frame period.
+pub fn delays_lie_within_a_period()
+    ensures arrivals { (s : SegmentValue) (r : ℕ) → IsLegal s → r < length s.rows → clock_at s.rows r ≡ true
+        → arrive (tree_rows s.rows) (reference_of s) + delay_at s r ≡ arrive (tree_rows s.rows) r }
+    ensures short { (s : SegmentValue) (r : ℕ) → IsLegal s → r < length s.rows → delay_at s r < period_fs s.head.frame_ns }
+{}
+
+/// A legal segment has as many signals as its count says.
+pub fn signals_are_listed()
+    ensures { (s : SegmentValue) → IsLegal s → length (signals_from 0 s.rows) ≡ signals s.rows }
 {}

@@ -1,13 +1,12 @@
 -- The oscillators of a legal segment.
-use Rattle.std.specs.Prelude.{◌≡◌, ℕ, ◌+◌, ◌-◌, ◌<◌, ◌≤◌, Bool, true, false, not, ◌&&◌, nat_le, if◌then◌else◌, List, [], ◌∷◌, length, None, Some, Option}
+use Rattle.std.specs.Prelude.{◌≡◌, ℕ, ◌+◌, ◌-◌, ◌≤◌, Bool, true, false, not, ◌&&◌, nat_le, if◌then◌else◌, List, [], ◌∷◌, None, Some, Option}
 use Rattle.std.specs.List.{All, find, list_all}
 use Rattle.std.proofs.Common.{arith, refl}
 use Rattle.std.proofs.lemmas.Bool.Decides.{nat_tests}
 use Rattle.std.proofs.lemmas.List.Elements.{All-nil, All-cons, All-head, All-tail}
-use Rattle.osc_clock.specs.Ticks.{Rate, IsRunning}
+use Rattle.osc_clock.specs.Ticks.{Rate}
 use Rattle.osc_clock.proofs.TickLaws.{gaps_within}
 use Rattle.dc_bounds.specs.TickBounds.{tick_fs, tolerance}
-use Rattle.dc_bounds.specs.TickFacts.{IsWithin}
 use Rattle.segment_file.specs.Segment.{RowValue, SegmentValue, is_measuring, oscillator}
 use Rattle.segment_file.specs.Faults.{clock_fault, is_off, is_within}
 use Rattle.segment_file.specs.Legal.{IsClock, IsLegal, KeepsTime}

@@ -1,5 +1,5 @@
 -- What a legal segment has.
-use Rattle.std.specs.Prelude.{◌≡◌, ℕ, zero, suc, is_none, ◌+◌, ◌*◌, ◌<◌, length, nat_le, ◌≤◌, ℤ, pos, ◌≤ℤ◌, int_lt, nat_lt, Bool, true, false, cond, if◌then◌else◌, ◌||◌, List, [], ◌∷◌, map, count_by, Option, Some, None, option_map, slice_index, slice_index_or}
+use Rattle.std.specs.Prelude.{◌≡◌, ℕ, zero, suc, is_none, ◌+◌, ◌*◌, ◌^◌, ◌<◌, length, nat_le, ◌≤◌, ℤ, pos, ◌≤ℤ◌, int_lt, nat_lt, Bool, true, false, cond, if◌then◌else◌, ◌||◌, List, [], ◌∷◌, map, count_by, Option, Some, None, option_map, slice_index, slice_index_or}
 use Rattle.std.specs.List.{find}
 use Rattle.std.proofs.Common.{arith, refl, subst, ◌∙◌}
 use Rattle.std.proofs.lemmas.Bool.Decides.{nat_tests}
@@ -9,6 +9,9 @@ use Rattle.cable_tree.specs.FrameOrder.{order}
 use Rattle.cable_tree.specs.PathSums.{round_trip}
 use Rattle.dc_bounds.specs.LockNumbers.{period_fs}
 use Rattle.dc_bounds.specs.Measurable.{unmeasurable}
+use Rattle.dc_bounds.specs.RunNumbers.{lead_ns, start_ns}
+use Rattle.dc_bounds.specs.TickFacts.{AreTicksOf}
+use Rattle.dc_bounds.proofs.RunLength.{start_fits}
 use Rattle.cable_tree.proofs.Rising.{order_within}
 use Rattle.cable_tree.proofs.Members.{order_whole}
 use Rattle.segment_shape.specs.Head.{HeadValue}
@@ -151,3 +154,11 @@ order_many s legal = order_whole (tree_rows s.rows) legal.tree.tree legal.tree.s
 pub row_within : (s : SegmentValue) → IsLegal s → (position : ℕ) → position < length s.rows → slice_index (order (tree_rows s.rows)) position < length s.rows
 row_within s legal position low =
     omega (arith, order_within (tree_rows s.rows) legal.tree.tree legal.tree.slaves position (omega (arith, low, order_many s legal)), length-map s.rows tree_row)
+
+-- the start of the units fits 63 bits
+pub legal_fits : (s : SegmentValue) (l k : ℕ) → IsLegal s → AreTicksOf s.head.ppm l k → l ≤ 100000 * period_fs s.head.frame_ns
+    → start_ns (s.head.epoch_ns + 10 * k) (lead_ns (clocks s.rows) s.head.loss_run s.head.frame_ns) s.head.cycle_ns < 2 ^ 63
+legal_fits s l k legal ticks early =
+    let counts = legal_counts s legal in
+    start_fits s.head.ppm (clocks s.rows) s.head.loss_run s.head.frame_ns s.head.cycle_ns s.head.epoch_ns l k legal.head.ppm (omega (arith, counts.clocks, counts.measuring))
+    legal.head.loss_run legal.head.frame_ns.1 legal.head.cycle_ns.1 legal.head.epoch_ns ticks early

@@ -1,5 +1,5 @@
 -- A segment is what its written file says.
-use Rattle.std.specs.Prelude.{◌≡◌, ℕ, zero, suc, ◌+◌, ◌<◌, ◌≤◌, Bool, true, false, ◌||◌, List, [], ◌∷◌, ◌++◌, length, map, Option, Some, None, option_map, IfSome, Ok, if◌then◌else◌}
+use Rattle.std.specs.Prelude.{◌≡◌, ℕ, zero, suc, ◌+◌, ◌<◌, ◌≤◌, Bool, true, false, ◌||◌, List, [], ◌∷◌, ◌++◌, length, map, Option, Some, None, option_map, IfSome, if◌then◌else◌}
 use Rattle.std.specs.List.{All, list_any, position_or_len}
 use Rattle.std.specs.Str.{bytes_eq}
 use Rattle.std.proofs.Common.{ap, ap₂, refl, sym, subst, ◌∙◌, arith, rules, get_or, nat_eq}
@@ -7,18 +7,14 @@ use Rattle.std.proofs.lemmas.List.{append_assoc, length-append, length-map, get_
 use Rattle.std.proofs.lemmas.List.Elements.{All-map, All-head, All-tail, All-get_or}
 use Rattle.std.proofs.lemmas.Bool.Decides.{nat_tests}
 use Rattle.serde_json.specs.Data.{Data}
-use Rattle.serde_json.specs.Written.{compact_text}
-use Rattle.cable_tree.specs.Row.{Row, IsRow, above, no_row}
+use Rattle.cable_tree.specs.Row.{IsRow, no_row}
 use Rattle.cable_tree.specs.Segment.{IsTree}
 use Rattle.cable_tree.specs.declared.port.Above.{Above}
 use Rattle.cable_tree.specs.declared.port.Port.{Port}
 use Rattle.cable_tree.specs.declared.port.Port.TheVariants.{P1, P2, P3}
-use Rattle.segment_shape.specs.Slaves.{SlaveValue}
 use Rattle.segment_shape.specs.Values.{is_id}
 use Rattle.segment_shape.specs.Twice.{first_again}
 use Rattle.segment_shape.specs.Ranges.{IsParent, IsSlave, IsLoss, IsFile}
-use Rattle.segment_shape.specs.ShapeOf.{file_of}
-use Rattle.segment_shape.specs.Written.{file_data}
 use Rattle.segment_shape.proofs.WrittenLemmas.{file_read}
 use Rattle.segment_shape.proofs.FileTextLemmas.{file_text_read}
 use Rattle.segment_file.specs.Segment.{RowValue, SegmentValue, tree_row, tree_rows}
@@ -26,7 +22,7 @@ use Rattle.segment_file.specs.Faults.{id_at, fault_of}
 use Rattle.segment_file.specs.Placed.{port_numbered, row_with, above_in, placed_row, placed_rows, placed}
 use Rattle.segment_file.specs.Legal.{IsClock, IsLegal}
 use Rattle.segment_file.specs.Told.{IsFileOf, IsSegmentText}
-use Rattle.segment_file.specs.Written.{port_number, parent_of, written_row, written, segment_data}
+use Rattle.segment_file.specs.Written.{port_number, parent_of, written_row, written, segment_data, segment_text}
 use Rattle.segment_file.proofs.RowLemmas.{legal_rows}
 
 -- ---- a row is found by its id
@@ -201,5 +197,5 @@ said_legal d s file =
 pub text_legal : (bytes : List ℕ) (s : SegmentValue) → IsSegmentText bytes s → IsLegal s
 text_legal bytes s (d, text, file) = said_legal d s file
 
-pub written_text : (s : SegmentValue) → IsLegal s → IsSegmentText (compact_text (segment_data s)) s
+pub written_text : (s : SegmentValue) → IsLegal s → IsSegmentText (segment_text s) s
 written_text s legal = (segment_data s, file_text_read (written s) (written_file s legal), written_says s legal)

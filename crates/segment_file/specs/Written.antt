@@ -1,4 +1,4 @@
--- The file that says a segment, as it is written: its slaves hang at ids again.
+-- The file that says a segment, as it is written: its slaves hang at ids again. And its text.
 use Rattle.std.specs.Prelude.{ℕ, List, map, option_map}
 use Rattle.serde_json.specs.Data.{Data}
 use Rattle.cable_tree.specs.declared.port.Above.{Above}
@@ -6,7 +6,7 @@ use Rattle.cable_tree.specs.declared.port.Port.{Port}
 use Rattle.cable_tree.specs.declared.port.Port.TheVariants.{P1, P2, P3}
 use Rattle.segment_shape.specs.Slaves.{ParentValue, SlaveValue}
 use Rattle.segment_shape.specs.ShapeOf.{ShapeValue}
-use Rattle.segment_shape.specs.Written.{file_data}
+use Rattle.segment_shape.specs.Written.{file_data, file_text}
 use Rattle.segment_file.specs.Segment.{RowValue, SegmentValue}
 use Rattle.segment_file.specs.Faults.{id_at}
 
@@ -42,3 +42,7 @@ written s = record { head = s.head; slaves = map (written_row s.rows) s.rows; lo
 -- and the JSON value
 abbrev pub segment_data : SegmentValue → Data
 segment_data s = file_data (written s)
+
+-- and its text, which ends with a line feed
+abbrev pub segment_text : SegmentValue → List ℕ
+segment_text s = file_text (written s)

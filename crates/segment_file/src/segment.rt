@@ -1,6 +1,7 @@
-ghost use Rattle.std.specs.Prelude.{◌≡◌, ◌<◌, ◌≤◌, IfErr, IfOk, Ok, Some, length, map, pos, ◌≤ℤ◌, slice_index};
+ghost use Rattle.std.specs.Prelude.{◌≡◌, ◌<◌, ◌≤◌, IfErr, IfOk, Ok, Some, length, map, option_map, pos, ◌≤ℤ◌, slice_index};
 ghost use Rattle.serde_json.specs.Data.{Data};
 ghost use Rattle.cable_tree.specs.FrameOrder.{order};
+ghost use Rattle.cable_tree.specs.Positions.{position_of};
 ghost use Rattle.segment_shape.specs.Losses.{loss_at};
 ghost use Rattle.segment_shape.specs.Ranges.{IsFile};
 ghost use Rattle.segment_shape.specs.Seen.{shape_seen};
@@ -186,6 +187,7 @@ impl Segment {
     pub fn reference_position(&self) -> u16
         ensures within { result < length self.now.rows }
         ensures is { reference_row self.now.rows ≡ Some (slice_index (order (tree_rows self.now.rows)) result) }
+        ensures position { option_map (position_of (tree_rows self.now.rows)) (reference_row self.now.rows) ≡ Some result }
     {
         self.tree.position(self.reference)
     }

@@ -1,6 +1,6 @@
 -- What is read at the keys of written entries.
-use Rattle.std.proofs.Common.{Ordering, Less, Equal, Greater, ◌≡◌, ◌∙◌, sym, ap, ℕ, suc, ◌+◌, ◌-◌, ◌<◌, ◌≤◌, Bool, true, false, ◌&&◌, ◌||◌, List, [], ◌∷◌, ◌++◌, length, Option, Some, None, Ok, Err, option_and_then, refl, arith, rules, append-nil}
-use Rattle.std.specs.Prelude.{nat_le, is_none, IfSome, option_map, unwrap_or, codes, if◌then◌else◌}
+use Rattle.std.proofs.Common.{Ordering, Less, Equal, Greater, ◌≡◌, ◌∙◌, sym, ap, ℕ, suc, ◌≤◌, Bool, true, false, ◌&&◌, ◌||◌, List, [], ◌∷◌, ◌++◌, length, Option, Some, None, Ok, Err, option_and_then, refl, arith, rules, append-nil}
+use Rattle.std.specs.Prelude.{nat_le, is_none, IfSome, option_map, unwrap_or, if◌then◌else◌}
 use Rattle.std.specs.List.{list_any}
 use Rattle.std.specs.Str.{bytes_eq}
 use Rattle.std.specs.Ordering.{nat_cmp, match_ordering}
@@ -8,11 +8,11 @@ use Rattle.std.specs.Cmp.Lexicographic.{slice_cmp}
 use Rattle.std.proofs.lemmas.Bool.Decides.{nat_tests}
 use Rattle.std.proofs.lemmas.List.{append_assoc}
 use Rattle.std.specs.Option.{option_or}
-use Rattle.serde_json.specs.Data.{Data, string, array, object, Items, no_items, item, Members, no_members, member}
+use Rattle.serde_json.specs.Data.{Data, string, array, Items, Members}
 use Rattle.serde_json.specs.Events.{items_len}
 use Rattle.serde_json.specs.Find.{get_member, get, as_object}
 use Rattle.segment_shape.specs.Paths.{Reading, ◌>>=◌}
-use Rattle.segment_shape.specs.Values.{or_fault, must_lack, id_text, id_of, items_of, or_empty, members_at, within, number_of, number_at, number_if_any, may_be, number_where, option_where, is_id, id_at, items_at, items_if_any}
+use Rattle.segment_shape.specs.Values.{or_fault, must_lack, id_text, id_of, items_of, or_empty, members_at, within, number_of, number_at, may_be, number_where, option_where, is_id, id_at, items_at, items_if_any}
 use Rattle.segment_shape.specs.Keys.{are_among, only}
 use Rattle.segment_shape.specs.Rows.{rows_after}
 use Rattle.segment_shape.specs.Written.{Entry, held, members_of, items_for, whole}

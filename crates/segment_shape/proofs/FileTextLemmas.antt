@@ -1,25 +1,24 @@
 -- The text of a written file is read as the value that says it.
-use Rattle.std.proofs.Common.{◌≡◌, ◌∙◌, sym, ap, subst, ℕ, suc, ◌<◌, ◌≤◌, ◌^◌, Bool, true, false, ◌&&◌, List, [], ◌∷◌, length, Option, Some, None, refl, arith, IsUtf8}
-use Rattle.std.specs.Prelude.{codes, option_map, IfSome, nat_le, nat_lt, if◌then◌else◌}
-use Rattle.std.specs.List.{All, list_all}
+use Rattle.std.proofs.Common.{◌≡◌, subst, ℕ, ◌<◌, ◌≤◌, ◌^◌, Bool, true, false, ◌&&◌, List, [], ◌∷◌, length, Option, Some, None, refl, arith}
+use Rattle.std.specs.Prelude.{codes, IfSome, nat_le, nat_lt}
+use Rattle.std.specs.List.{list_all}
 use Rattle.std.proofs.lemmas.Bool.Decides.{nat_tests}
 use Rattle.std.proofs.lemmas.List.Elements.{All-weaker}
 use Rattle.json.proofs.Printed.Utf8.{are_ascii, IsUtf8-are_ascii}
 use Rattle.serde_json.specs.Data.{Data, string, array, object}
-use Rattle.serde_json.specs.Written.{compact_text}
 use Rattle.osc_clock.specs.Ticks.{Rate}
 use Rattle.esc_regs.specs.declared.clock_kind.ClockKind.{ClockKind}
 use Rattle.esc_regs.specs.declared.clock_kind.ClockKind.TheVariants as kind
 use Rattle.segment_shape.specs.Values.{is_id, is_id_byte}
 use Rattle.segment_shape.specs.Slaves.{ParentValue, SlaveValue, measures, has_clock, greatest_start, changes}
 use Rattle.segment_shape.specs.ShapeOf.{ShapeValue}
-use Rattle.segment_shape.specs.Ranges.{IsHead, IsRate, IsParent, IsSlave, IsLoss, IsFile}
+use Rattle.segment_shape.specs.Ranges.{IsRate, IsParent, IsSlave, IsLoss, IsFile}
 use Rattle.segment_shape.specs.Told.{IsText}
-use Rattle.segment_shape.specs.Written.{Entry, members_of, items_for, whole, at_key, at_key_if, at_key_of, kind_name, phase_name, rate_entries, rate_data, slave_entries, slave_data, loss_entries, loss_data, file_entries, file_data}
+use Rattle.segment_shape.specs.Written.{members_of, items_for, whole, at_key, at_key_if, at_key_of, kind_name, phase_name, rate_entries, rate_data, slave_entries, slave_data, loss_entries, loss_data, file_entries, file_data, file_text}
 use Rattle.segment_shape.specs.declared.loss_row.LossRow.{LossRow}
 use Rattle.segment_shape.specs.declared.loss_row.Phase.{Phase}
 use Rattle.segment_shape.specs.declared.loss_row.Phase.TheVariants.{Commission, Drift}
-use Rattle.segment_shape.proofs.TextLemmas.{IsPlain, IsPlainEntry, rise, plain_read, plainer, whole_plain, string_plain, items_plain, array_plain, object_plain}
+use Rattle.segment_shape.proofs.TextLemmas.{IsPlain, IsPlainEntry, rise, plain_read, plain_utf8, plainer, whole_plain, string_plain, items_plain, array_plain, object_plain}
 
 -- ---- entries
 
@@ -132,6 +131,6 @@ file_plain s is =
     refl in
     plainer 5 127 (object (members_of (file_entries s))) (omega arith) whole_file
 
--- the compact text of a file's written value is a text of that value
-pub file_text_read : (s : ShapeValue) → IsFile s → IsText (compact_text (file_data s)) (file_data s)
-file_text_read s is = let plain = file_plain s is in (plain.text, plain_read (file_data s) plain)
+-- the text of a written file is a text of its value
+pub file_text_read : (s : ShapeValue) → IsFile s → IsText (file_text s) (file_data s)
+file_text_read s is = let plain = file_plain s is in (plain_utf8 (file_data s) plain, plain_read (file_data s) plain)

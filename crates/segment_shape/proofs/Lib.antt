@@ -2,6 +2,7 @@ mod EntryLemmas
 mod FileLemmas
 pub mod FileTextLemmas
 mod ItemLemmas
+mod LineFeedLemmas
 pub mod LossLemmas
 mod PathLemmas
 pub mod RangeLemmas

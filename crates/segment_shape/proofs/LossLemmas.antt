@@ -1,5 +1,5 @@
 -- Losses, and their table.
-use Rattle.std.proofs.Common.{◌≡◌, ◌≢◌, ◌⊎◌, inl, inr, ◌∙◌, sym, ap, subst, ℕ, zero, suc, ◌<◌, Bool, true, false, ◌||◌, ◌&&◌, List, [], ◌∷◌, ◌++◌, length, get_or, set, replicate, Option, Some, None, refl, arith}
+use Rattle.std.proofs.Common.{◌≡◌, ◌⊎◌, inl, inr, ◌∙◌, sym, ap, subst, ℕ, zero, suc, ◌<◌, Bool, true, false, ◌||◌, ◌&&◌, List, [], ◌∷◌, ◌++◌, length, get_or, set, replicate, Option, Some, None, refl, arith}
 use Rattle.std.specs.Prelude.{nat_eq, ◌==◌, is_some, option_map, if◌then◌else◌}
 use Rattle.std.specs.List.{All, find, list_any}
 use Rattle.std.specs.Option.{option_or}
@@ -9,7 +9,7 @@ use Rattle.std.proofs.lemmas.List.{length-replicate, length-set, get_or-set_othe
 use Rattle.std.proofs.lemmas.List.Elements.{All-head, All-tail}
 use Rattle.std.proofs.lemmas.List.Folds.{find-append}
 use Rattle.segment_shape.specs.Losses.{is_same_phase, is_loss_of, is_listed, loss_at}
-use Rattle.segment_shape.specs.LossTable.{IsNumber, IsTable, place_of}
+use Rattle.segment_shape.specs.LossTable.{IsNumber, IsTable, table_place}
 use Rattle.segment_shape.specs.declared.loss_row.Phase.{Phase}
 use Rattle.segment_shape.specs.declared.loss_row.Phase.TheVariants.{Commission, Drift}
 use Rattle.segment_shape.specs.declared.loss_row.LossRow.{LossRow}
@@ -37,7 +37,7 @@ get_or-clear (suc n) (suc i) = get_or-clear n i
 pub clear_table : (n : ℕ) (rows : List LossRow) (table : List (Option ℕ)) → n ≡ 200001 → rows ≡ [] → table ≡ replicate n None → IsTable rows table
 clear_table n rows table e none clear = record {
   enough = ap length clear ∙ length-replicate n None ∙ e;
-  each = λ phase number _. ap (λ t. get_or t (place_of phase number) None) clear ∙ get_or-clear n (place_of phase number) ∙ sym (ap (λ rs. loss_at rs phase number) none);
+  each = λ phase number _. ap (λ t. get_or t (table_place phase number) None) clear ∙ get_or-clear n (table_place phase number) ∙ sym (ap (λ rs. loss_at rs phase number) none);
 }
 
 -- a frame is listed exactly where the slaves that it reaches are found
@@ -86,7 +86,7 @@ or_none (Some n) = refl
 
 -- two places are one, or the loss is another
 places : (p q : Phase) (m n : ℕ) → IsNumber m → IsNumber n
-    → ((place_of p m ≡ place_of q n) × ((is_same_phase p q && m == n) ≡ true)) ⊎ ((place_of q n ≡ place_of p m → ⊥) × ((is_same_phase p q && m == n) ≡ false))
+    → ((table_place p m ≡ table_place q n) × ((is_same_phase p q && m == n) ≡ true)) ⊎ ((table_place q n ≡ table_place p m → ⊥) × ((is_same_phase p q && m == n) ≡ false))
 places Commission Drift m n is is' = inr (λ e. omega (arith, e, is, is'), refl)
 places Drift Commission m n is is' = inr (λ e. omega (arith, e, is, is'), refl)
 places Commission Commission m n is is' = by_test (nat_eq m n) refl
@@ -96,16 +96,16 @@ places Commission Commission m n is is' = by_test (nat_eq m n) refl
     by_test false e = inr (λ same. grind (arith, nat_tests, e, same), e)
 places Drift Drift m n is is' = by_test (nat_eq m n) refl
   where
-    by_test : (b : Bool) → nat_eq m n ≡ b → ((place_of Drift m ≡ place_of Drift n) × (nat_eq m n ≡ true)) ⊎ ((place_of Drift n ≡ place_of Drift m → ⊥) × (nat_eq m n ≡ false))
-    by_test true e = let same : m ≡ n = grind (arith, nat_tests, e) in inl (ap (λ k. place_of Drift k) same, e)
+    by_test : (b : Bool) → nat_eq m n ≡ b → ((table_place Drift m ≡ table_place Drift n) × (nat_eq m n ≡ true)) ⊎ ((table_place Drift n ≡ table_place Drift m → ⊥) × (nat_eq m n ≡ false))
+    by_test true e = let same : m ≡ n = grind (arith, nat_tests, e) in inl (ap (λ k. table_place Drift k) same, e)
     by_test false e = inr (λ same. grind (arith, nat_tests, e, same), e)
 
-place_within : (phase : Phase) (number : ℕ) → IsNumber number → place_of phase number < 200001
+place_within : (phase : Phase) (number : ℕ) → IsNumber number → table_place phase number < 200001
 place_within Commission number is = omega (arith, is)
 place_within Drift number is = omega (arith, is)
 
 -- the table with one loss more
-pub pushed_table : (rows : List LossRow) (r : LossRow) (table : List (Option ℕ)) (place : ℕ) (new : Option ℕ) → IsNumber r.number → IsTable rows table → place ≡ place_of r.phase r.number
+pub pushed_table : (rows : List LossRow) (r : LossRow) (table : List (Option ℕ)) (place : ℕ) (new : Option ℕ) → IsNumber r.number → IsTable rows table → place ≡ table_place r.phase r.number
     → new ≡ option_or (loss_at rows r.phase r.number) (Some r.after) → IsTable (rows ++ r ∷ []) (set table place new)
 pushed_table rows r table place new is kept at e = record {
   enough = length-set table place new ∙ kept.enough;
@@ -113,15 +113,15 @@ pushed_table rows r table place new is kept at e = record {
 }
   where
     here : (phase : Phase) (number : ℕ) → IsNumber number
-        → ((place_of r.phase r.number ≡ place_of phase number) × (is_loss_of phase number r ≡ true)) ⊎ ((place_of phase number ≡ place_of r.phase r.number → ⊥) × (is_loss_of phase number r ≡ false))
-        → get_or (set table place new) (place_of phase number) None ≡ loss_at (rows ++ r ∷ []) phase number
+        → ((table_place r.phase r.number ≡ table_place phase number) × (is_loss_of phase number r ≡ true)) ⊎ ((table_place phase number ≡ table_place r.phase r.number → ⊥) × (is_loss_of phase number r ≡ false))
+        → get_or (set table place new) (table_place phase number) None ≡ loss_at (rows ++ r ∷ []) phase number
     here phase number number_is (inl one) =
         let low : place < length table = omega (arith, at, place_within r.phase r.number is, kept.enough) in
-        let whole : place_of phase number ≡ place = sym one.0 ∙ sym at in
-        get_or-set_at table place (place_of phase number) new None whole low ∙ e
+        let whole : table_place phase number ≡ place = sym one.0 ∙ sym at in
+        get_or-set_at table place (table_place phase number) new None whole low ∙ e
         ∙ ap (λ o. option_or o (Some r.after)) (sym (kept.each r.phase r.number is) ∙ ap (λ k. get_or table k None) one.0 ∙ kept.each phase number number_is)
         ∙ sym (loss_at_push rows r phase number ∙ ap (λ b. option_or (loss_at rows phase number) (if b then Some r.after else None)) one.1)
     here phase number number_is (inr other) =
-        get_or-set_other table place (place_of phase number) new None (λ same. other.0 (same ∙ at)) ∙ kept.each phase number number_is
+        get_or-set_other table place (table_place phase number) new None (λ same. other.0 (same ∙ at)) ∙ kept.each phase number number_is
         ∙ or_none (loss_at rows phase number)
         ∙ sym (loss_at_push rows r phase number ∙ ap (λ b. option_or (loss_at rows phase number) (if b then Some r.after else None)) other.1)

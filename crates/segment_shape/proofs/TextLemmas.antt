@@ -1,6 +1,6 @@
 -- The compact text of a written value is read as that value.
-use Rattle.std.proofs.Common.{Ordering, Less, Equal, Greater, ◌≡◌, ◌∙◌, sym, ap, subst, ℕ, suc, ◌+◌, ◌<◌, ◌≤◌, ◌^◌, Bool, true, false, ◌&&◌, List, [], ◌∷◌, ◌++◌, length, Option, Some, None, option_and_then, refl, arith, append-nil, IsUtf8}
-use Rattle.std.specs.Prelude.{codes, option_map, decimal}
+use Rattle.std.proofs.Common.{Ordering, Less, Equal, Greater, ◌≡◌, ◌∙◌, sym, ap, ℕ, suc, ◌<◌, ◌≤◌, ◌^◌, Bool, true, false, ◌&&◌, List, [], ◌∷◌, ◌++◌, Option, Some, None, option_and_then, refl, arith, append-nil, IsUtf8}
+use Rattle.std.specs.Prelude.{decimal}
 use Rattle.std.specs.List.{All}
 use Rattle.std.specs.Ordering.{nat_cmp, match_ordering}
 use Rattle.std.specs.Cmp.Lexicographic.{slice_cmp}
@@ -12,15 +12,15 @@ use Rattle.json.specs.Json as json
 use Rattle.json.specs.Lex.{tokens}
 use Rattle.json.specs.Tree as tree
 use Rattle.json.proofs.Printed.Decimals.{IsNumber-decimal}
-use Rattle.json.proofs.Printed.Tokens.{tokens-print}
 use Rattle.json.proofs.Printed.Trees.{ArePrintable-json_tokens, value-json_tokens}
 use Rattle.json.proofs.Printed.Utf8.{IsUtf8-are_ascii, IsUtf8-quoted}
-use Rattle.serde_json.specs.Data.{Data, string, array, object, Items, no_items, item, Members, no_members, member, put}
-use Rattle.serde_json.specs.Read.{read, max_depth, number_of, of_json, of_items, of_members}
+use Rattle.serde_json.specs.Data.{Data, string, array, object, Items, Members, no_members, member, put}
+use Rattle.serde_json.specs.Read.{read, max_depth, of_json, of_items, of_members}
 use Rattle.serde_json.specs.Written.{outline, items_outline, members_outline, comma_if, compact_text, items_text, members_text}
 use Rattle.serde_json.proofs.Numbers.{number_of-decimal}
 use Rattle.serde_json.proofs.Texts.{print-outline}
-use Rattle.segment_shape.specs.Written.{Entry, held, members_of, items_for, whole}
+use Rattle.segment_shape.specs.Written.{Entry, held, members_of, items_for, whole, line_feed}
+use Rattle.segment_shape.proofs.LineFeedLemmas.{tokens_before_line_feed}
 
 -- a value that is read back from its text, and nests at most so deep
 pub record IsPlain (most : ℕ) (d : Data) : Type 0 where
@@ -29,12 +29,16 @@ pub record IsPlain (most : ℕ) (d : Data) : Type 0 where
   pub shallow : tree.depth (outline d) ≤ most
   pub text : IsUtf8 (compact_text d)
 
-pub plain_read : (d : Data) → IsPlain 127 d → read (compact_text d) ≡ Some d
+-- its text with a line feed is a text of it
+pub plain_read : (d : Data) → IsPlain 127 d → read (compact_text d ++ line_feed) ≡ Some d
 plain_read d plain =
     let ts = tree.json_tokens (outline d) in
-    let text : tokens (compact_text d) ≡ ts = ap tokens (sym (print-outline d)) ∙ tokens-print ts (ArePrintable-json_tokens (outline d) plain.numbers) in
+    let text : tokens (compact_text d ++ line_feed) ≡ ts = ap (λ bytes. tokens (bytes ++ line_feed)) (sym (print-outline d)) ∙ tokens_before_line_feed ts (ArePrintable-json_tokens (outline d) plain.numbers) in
     ap (λ r. option_and_then of_json (option_and_then (λ p. json.if_last p.0 p.1) r)) (ap (json.value max_depth) (text ∙ sym (append-nil ts)) ∙ value-json_tokens (outline d) max_depth [] plain.shallow)
     ∙ plain.back
+
+pub plain_utf8 : (d : Data) → IsPlain 127 d → IsUtf8 (compact_text d ++ line_feed)
+plain_utf8 d plain = IsUtf8-append (compact_text d) line_feed plain.text (IsUtf8-are_ascii line_feed refl)
 
 pub whole_plain : (n : ℕ) → n < 2 ^ 64 → IsPlain 0 (whole n)
 whole_plain n low = record {

@@ -1,6 +1,6 @@
 -- A file's written value says it.
-use Rattle.std.proofs.Common.{◌≡◌, ◌∙◌, sym, ap, subst, ℕ, suc, ◌+◌, ◌-◌, ◌<◌, ◌≤◌, Bool, true, false, ◌&&◌, List, [], ◌∷◌, ◌++◌, length, map, Option, Some, None, Ok, Err, option_and_then, refl, get_or, arith}
-use Rattle.std.specs.Prelude.{◌==◌, IfSome, option_map, unwrap_or, codes, if◌then◌else◌}
+use Rattle.std.proofs.Common.{◌≡◌, ◌∙◌, sym, ap, subst, ℕ, ◌+◌, ◌-◌, ◌<◌, ◌≤◌, Bool, true, false, ◌&&◌, List, [], ◌∷◌, ◌++◌, length, Option, Some, None, Ok, Err, option_and_then, refl, get_or, arith}
+use Rattle.std.specs.Prelude.{◌==◌, IfSome, option_map, codes, if◌then◌else◌}
 use Rattle.std.specs.List.{All}
 use Rattle.std.proofs.lemmas.Bool.Decides.{nat_tests}
 use Rattle.std.proofs.lemmas.List.{append_assoc, get_or_at, get_or_append_left, length-append}
@@ -11,21 +11,21 @@ use Rattle.serde_json.specs.Find.{get, as_object, as_str}
 use Rattle.osc_clock.specs.Ticks.{Rate, AreRising}
 use Rattle.esc_regs.specs.declared.clock_kind.ClockKind.{ClockKind}
 use Rattle.esc_regs.specs.declared.clock_kind.ClockKind.TheVariants as kind
-use Rattle.segment_shape.specs.Paths.{Reading, root}
-use Rattle.segment_shape.specs.Values.{or_fault, must_lack, is_id, id_of, id_at, number_at, number_where, option_where, items_at, items_if_any, members_at}
+use Rattle.segment_shape.specs.Paths.{root}
+use Rattle.segment_shape.specs.Values.{or_fault, must_lack, id_of, id_at, number_at, number_where, option_where, items_at, items_if_any, members_at}
 use Rattle.segment_shape.specs.Keys.{are_among, only, head_keys, slave_keys, rate_keys, loss_keys}
 use Rattle.segment_shape.specs.Rows.{rows_after}
 use Rattle.segment_shape.specs.Head.{HeadValue, head_of}
 use Rattle.segment_shape.specs.Rates.{last_tick, rate_behind, rate_in, rates_of}
-use Rattle.segment_shape.specs.Slaves.{ParentValue, PlaceValue, TimesValue, SlaveValue, measures, has_clock, greatest_start, kind_named, kind_at, port_of, parent_of, place_of, changes, rates_where, times_of, slave, slave_of, slave_in}
+use Rattle.segment_shape.specs.Slaves.{ParentValue, SlaveValue, measures, has_clock, greatest_start, kind_named, kind_at, port_of, parent_of, place_of, changes, rates_where, times_of, slave_of, slave_in}
 use Rattle.segment_shape.specs.Losses.{phase_named, phase_at, is_loss_of, is_listed, unlisted, loss_in}
 use Rattle.segment_shape.specs.ShapeOf.{ShapeValue, shape_of, file_of}
 use Rattle.segment_shape.specs.Ranges.{IsHead, IsRate, IsParent, IsSlave, IsLoss, AreOnce, IsFile}
-use Rattle.segment_shape.specs.Written.{Entry, members_of, items_for, whole, kind_name, phase_name, rate_entries, rate_data, slave_entries, slave_data, loss_entries, loss_data, file_entries, file_data}
+use Rattle.segment_shape.specs.Written.{members_of, items_for, whole, kind_name, phase_name, rate_entries, rate_data, slave_entries, slave_data, loss_entries, loss_data, file_entries, file_data}
 use Rattle.segment_shape.specs.declared.loss_row.LossRow.{LossRow}
 use Rattle.segment_shape.specs.declared.loss_row.Phase.{Phase}
 use Rattle.segment_shape.specs.declared.loss_row.Phase.TheVariants.{Commission, Drift}
-use Rattle.segment_shape.proofs.EntryLemmas.{id_is, if_true, if_false, object_read, get_entry, known, known_keys, only_known, then_ok, number_read, where_read, shift_read, option_read, id_read, items_many, items_read, items_read_if_any, AreRead, rows_read}
+use Rattle.segment_shape.proofs.EntryLemmas.{id_is, if_false, object_read, get_entry, known, known_keys, only_known, then_ok, number_read, where_read, shift_read, option_read, id_read, items_many, items_read, items_read_if_any, AreRead, rows_read}
 
 rate_says : (before : ℕ) (r : Rate) (d : Data) (ms : Members) → as_object d ≡ Some ms → get (codes "tick") d ≡ Some (whole r.tick) → get (codes "period_fs") d ≡ Some (whole r.period)
     → are_among rate_keys ms ≡ true → before < r.tick → 0 < r.period → IsRate r → rate_behind before d ≡ Ok r

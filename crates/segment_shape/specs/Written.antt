@@ -1,6 +1,7 @@
--- The JSON value that says a file, as files are written: the keys of an object stand in byte order.
-use Rattle.std.specs.Prelude.{ℕ, Bool, List, [], ◌∷◌, codes, Option, Some, None, option_map, if◌then◌else◌}
+-- The JSON value that says a file, as files are written: the keys of an object stand in byte order. And its text.
+use Rattle.std.specs.Prelude.{ℕ, Bool, List, [], ◌∷◌, ◌++◌, codes, Option, Some, None, option_map, if◌then◌else◌}
 use Rattle.serde_json.specs.Data.{unsigned, Data, number, string, array, object, Items, no_items, item, Members, no_members, member}
+use Rattle.serde_json.specs.Written.{compact_text}
 use Rattle.osc_clock.specs.Ticks.{Rate}
 use Rattle.esc_regs.specs.declared.clock_kind.ClockKind.{ClockKind}
 use Rattle.esc_regs.specs.declared.clock_kind.ClockKind.TheVariants as kind
@@ -102,3 +103,11 @@ file_entries s =
 -- the value that says a file
 unfoldable pub file_data : ShapeValue → Data
 file_data s = object (members_of (file_entries s))
+
+-- a line feed, with which each line ends
+abbrev pub line_feed : List ℕ
+line_feed = 10 ∷ []
+
+-- the text of a written file: the compact text of its value, and a line feed
+abbrev pub file_text : ShapeValue → List ℕ
+file_text s = compact_text (file_data s) ++ line_feed

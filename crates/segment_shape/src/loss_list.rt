@@ -1,6 +1,6 @@
-ghost use Rattle.std.specs.Prelude.{◌≡◌, ◌≤◌, ◌++◌, ◌∷◌, [], IfOk, OnOk, length};
+ghost use Rattle.std.specs.Prelude.{◌≡◌, ◌≤◌, ◌++◌, ◌∷◌, [], IfOk, OnErr, OnOk, length};
 ghost use Rattle.segment_shape.specs.Losses.{is_listed, loss_at};
-ghost use Rattle.segment_shape.specs.LossTable.{place_of};
+ghost use Rattle.segment_shape.specs.LossTable.{table_place};
 
 use crate::loss_row::{LossRow, Phase};
 use std::alloc::{AllocError, Global};
@@ -30,9 +30,9 @@ impl Model for LossList {
 }
 
 // Where a number of a phase stands.
-fn place_of(phase: Phase, number: u32) -> usize
+fn table_place(phase: Phase, number: u32) -> usize
     requires { number ≤ 100000 }
-    ensures { result ≡ place_of phase number }
+    ensures { result ≡ table_place phase number }
 {
     match phase {
         Phase::Commission => number as usize,
@@ -52,14 +52,15 @@ impl LossList {
         })
     }
 
-    /// Puts a loss at the end.
+    /// Puts a loss at the end. Want of memory alone refuses it.
     pub fn push(&mut self, row: LossRow) -> Result<(), AllocError>
         requires { (1 ≤ row.number) × (row.number ≤ 100000) }
         ensures ok { OnOk result (self.new ≡ self.old ++ row ∷ []) }
+        ensures err { OnErr result (self.new ≡ self.old) }
     {
         let known = self.after(row.phase, row.number);
         self.rows.push(row)?;
-        let place = place_of(row.phase, row.number);
+        let place = table_place(row.phase, row.number);
         self.table[place] = known.or(Some(row.after));
         Ok(())
     }
@@ -89,7 +90,7 @@ impl LossList {
         ensures { result ≡ loss_at self.now phase number }
     {
         if 1 <= number && number <= LAST_NUMBER {
-            self.table[place_of(phase, number)]
+            self.table[table_place(phase, number)]
         } else {
             None
         }

@@ -1,121 +1,123 @@
-use crate::shapes::find;
-use crate::words::{number_or_none, parts, status, time};
-use anyhow::bail;
+use crate::words::{Words, number_told};
 use dc_delay::{DelayError, DelayList, Kind, Latch, delays, judge};
-use dc_topology::Shape;
-use std::alloc::Global;
+use dc_topology::{Shape, topology};
+use std::alloc::{AllocError, Global};
+use wrap_time::{ClockWord, T32};
+
+/// Slaves in frame order, a list of each of their numbers.
+#[derive(Drop)]
+struct Slaves {
+    /// What they show.
+    statuses: Vec<u16>,
+    /// How long they keep a frame.
+    kinds: Vec<Kind>,
+    /// Which of them measure.
+    measuring: Vec<bool>,
+    /// Which of them are clocks.
+    timed: Vec<bool>,
+    /// What they latched.
+    latches: Vec<Option<Latch>>,
+}
+
+impl Slaves {
+    fn new(alloc: Global) -> Slaves {
+        Slaves {
+            statuses: Vec::new(alloc),
+            kinds: Vec::new(alloc),
+            measuring: Vec::new(alloc),
+            timed: Vec::new(alloc),
+            latches: Vec::new(alloc),
+        }
+    }
+
+    // Adds the slave that comes next in a case.
+    fn push(&mut self, words: &mut Words<'_>) -> Result<(), AllocError> {
+        self.statuses.push(words.status())?;
+        self.kinds.push(Kind {
+            tp_ns: words.number(0, 65_535) as u16,
+            tf_ns: words.number(0, 65_535) as u16,
+        })?;
+        let (measures, is_clock) = match words.next() {
+            "clock" => (true, true),
+            "only" => (true, false),
+            "none" => (false, false),
+            _ => {
+                words.refuse();
+                (false, false)
+            }
+        };
+        self.measuring.push(measures)?;
+        self.timed.push(is_clock)?;
+        let latch = if measures { Some(latch(words)) } else { None };
+        self.latches.push(latch)?;
+        Ok(())
+    }
+}
+
+fn latch(words: &mut Words<'_>) -> Latch {
+    let arrival = words.time();
+    let ports = [arrival, words.time(), words.time(), words.time()];
+    Latch {
+        ports: ports.map(|time| T32::cut(time)),
+        unit: arrival,
+    }
+}
 
 /// What `judge` and `delays` answer.
-pub(crate) fn delays_of(alloc: Global, words: &[&str]) -> anyhow::Result<String> {
+pub(crate) fn delays_told(
+    alloc: Global,
+    words: &mut Words<'_>,
+    told: &mut String,
+) -> Result<(), AllocError> {
+    let mut slaves = Slaves::new(alloc);
+    for _slave in 0..words.most() {
+        if words.is_empty() {
+            break;
+        }
+        slaves.push(words)?;
+    }
     let mut shape = Shape::new();
-    if find(&statuses(alloc, words)?, &mut shape)?.is_err() {
-        bail!("the statuses list no tree");
+    if slaves.statuses.len() > 256 || topology(&slaves.statuses, &mut shape).is_err() {
+        words.refuse();
+        return Ok(());
     }
-    let timed = flags(alloc, words, "timed")?;
-    let judged = judgement(alloc, &shape, &flags(alloc, words, "only")?, &timed)?;
-    let kinds = kinds(alloc, words)?;
-    let latches = latches(alloc, words)?;
-    let measured = measured(alloc, &shape, &kinds, &latches, &timed)?;
-    Ok(format!(in alloc; "{judged} {measured}")?)
+    judgement_told(&shape, &slaves, told)?;
+    told.push_str(" ")?;
+    measured_told(&shape, &slaves, told)
 }
 
-// What the slaves show.
-fn statuses(alloc: Global, words: &[&str]) -> anyhow::Result<Vec<u16>> {
-    let mut statuses = Vec::new(alloc);
-    for word in words {
-        let parts = parts(alloc, word)?;
-        let [shown, ..] = parts.as_slice() else {
-            bail!("a slave has a status");
-        };
-        statuses.push(status(shown)?)?;
+fn judgement_told(shape: &Shape, slaves: &Slaves, told: &mut String) -> Result<(), AllocError> {
+    if slaves.measuring.len() != shape.len() || slaves.timed.len() != shape.len() {
+        return told.push_str("another number of slaves");
     }
-    Ok(statuses)
+    answer_told(judge(shape, &slaves.measuring, &slaves.timed), told)
 }
 
-// How long they keep a frame.
-fn kinds(alloc: Global, words: &[&str]) -> anyhow::Result<Vec<Kind>> {
-    let mut kinds = Vec::new(alloc);
-    for word in words {
-        let parts = parts(alloc, word)?;
-        let [_, tp_ns, tf_ns, ..] = parts.as_slice() else {
-            bail!("a slave has tP and tF");
-        };
-        kinds.push(Kind {
-            tp_ns: tp_ns.parse()?,
-            tf_ns: tf_ns.parse()?,
-        })?;
-    }
-    Ok(kinds)
-}
-
-// Which of them are clocks, or of this other kind.
-fn flags(alloc: Global, words: &[&str], other: &str) -> anyhow::Result<Vec<bool>> {
-    let mut flags = Vec::new(alloc);
-    for word in words {
-        let parts = parts(alloc, word)?;
-        let [_, _, _, kind, ..] = parts.as_slice() else {
-            bail!("a slave has a kind");
-        };
-        flags.push(*kind == "clock" || *kind == other)?;
-    }
-    Ok(flags)
-}
-
-// What they latched.
-fn latches(alloc: Global, words: &[&str]) -> anyhow::Result<Vec<Option<Latch>>> {
-    let mut latches = Vec::new(alloc);
-    for word in words {
-        let parts = parts(alloc, word)?;
-        latches.push(match parts.as_slice() {
-            [_, _, _, _] => None,
-            [_, _, _, _, arrival, one, two, three] => Some(Latch {
-                ports: [time(arrival)?, time(one)?, time(two)?, time(three)?],
-                unit: arrival.parse()?,
-            }),
-            _ => bail!("a slave latches four times"),
-        })?;
-    }
-    Ok(latches)
-}
-
-fn judgement(
-    alloc: Global,
-    shape: &Shape,
-    measuring: &[bool],
-    timed: &[bool],
-) -> anyhow::Result<String> {
-    if measuring.len() != shape.len() || timed.len() != shape.len() {
-        bail!("one entry for each slave");
-    }
-    answer(alloc, judge(shape, measuring, timed))
-}
-
-fn measured(
-    alloc: Global,
-    shape: &Shape,
-    kinds: &[Kind],
-    latches: &[Option<Latch>],
-    timed: &[bool],
-) -> anyhow::Result<String> {
+fn measured_told(shape: &Shape, slaves: &Slaves, told: &mut String) -> Result<(), AllocError> {
+    let Slaves {
+        kinds,
+        latches,
+        timed,
+        ..
+    } = slaves;
     let len = shape.len();
     if kinds.len() != len || latches.len() != len || timed.len() != len {
-        bail!("one entry for each slave");
+        return told.push_str("another number of slaves");
     }
     // What stood there before is gone.
     let mut list = DelayList::new();
     list.push(Some(1));
-    let mut told = answer(alloc, delays(shape, kinds, latches, timed, &mut list))?;
+    answer_told(delays(shape, kinds, latches, timed, &mut list), told)?;
     for delay in list.as_slice() {
-        let delay = number_or_none(alloc, *delay)?;
-        told.push_str(&format!(in alloc; " {delay}")?)?;
+        number_told(*delay, told)?;
     }
-    Ok(told)
+    Ok(())
 }
 
-fn answer(alloc: Global, answer: Result<(), DelayError>) -> anyhow::Result<String> {
-    Ok(match answer {
-        Ok(()) => format!(in alloc; "ok")?,
-        Err(DelayError::NoReference) => format!(in alloc; "no-reference")?,
-        Err(DelayError::Unmeasurable(position)) => format!(in alloc; "unmeasurable-{position}")?,
-    })
+fn answer_told(answer: Result<(), DelayError>, told: &mut String) -> Result<(), AllocError> {
+    match answer {
+        Ok(()) => told.push_str("ok"),
+        Err(DelayError::NoReference) => told.push_str("no-reference"),
+        Err(DelayError::Unmeasurable(position)) => write!(told, "unmeasurable-{position}"),
+    }
 }

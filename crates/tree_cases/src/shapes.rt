@@ -1,95 +1,104 @@
-use crate::trees::{refusal, tree};
-use crate::words::{place, place_word, port_number, status};
-use anyhow::bail;
+ghost use Rattle.std.specs.Prelude.{◌<◌, length};
+
+use crate::trees::{refusal_told, tree};
+use crate::words::{Words, place_told, port_number};
 use cable_tree::{Port, Tree, TreeRow};
 use dc_topology::{Shape, TopologyError, topology};
-use std::alloc::Global;
+use std::alloc::{AllocError, Global};
 use tree_status::dl_status;
 
 /// The statuses of slaves that hang so, and the tree that is found from them.
-pub(crate) fn statuses_of(alloc: Global, words: &[&str]) -> anyhow::Result<String> {
+pub(crate) fn statuses_told(
+    alloc: Global,
+    words: &mut Words<'_>,
+    told: &mut String,
+) -> Result<(), AllocError> {
     let mut rows = Vec::new(alloc);
-    for word in words {
-        match TreeRow::new(place(word)?, 310, 300, 50_000) {
+    for _row in 0..words.most() {
+        if words.is_empty() {
+            break;
+        }
+        match TreeRow::new(words.place(), 310, 300, 50_000) {
             Some(row) => rows.push(row)?,
-            None => bail!("310, 300 and 50,000 are within the limits"),
+            None => words.refuse(),
         }
     }
-    match tree(alloc, &rows)? {
-        Ok(tree) => shown(alloc, &tree),
-        Err(error) => refusal(alloc, error),
+    match tree(alloc, words, &rows) {
+        Ok(tree) => shown(alloc, words, &tree, told),
+        Err(error) => refusal_told(error, told),
     }
 }
 
 // The status of each row, and what they list in frame order.
-fn shown(alloc: Global, tree: &Tree) -> anyhow::Result<String> {
-    let mut told = format!(in alloc; "status")?;
+fn shown(
+    alloc: Global,
+    words: &mut Words<'_>,
+    tree: &Tree,
+    told: &mut String,
+) -> Result<(), AllocError> {
+    told.push_str("status")?;
     for row in 0..tree.len() as u16 {
-        told.push_str(&format!(in alloc; " {:04x}", status_at(tree, row)?)?)?;
+        write!(told, " {:04x}", dl_status(tree, row))?;
     }
+    told.push_str(" ")?;
     let mut statuses = Vec::new(alloc);
     for row in tree.order() {
-        statuses.push(status_at(tree, *row)?)?;
+        if usize::from(*row) >= tree.len() {
+            words.refuse();
+            return Ok(());
+        }
+        statuses.push(dl_status(tree, *row))?;
     }
-    told.push_str(&format!(in alloc; " {}", listed(alloc, &statuses)?)?)?;
-    Ok(told)
-}
-
-fn status_at(tree: &Tree, row: u16) -> anyhow::Result<u16> {
-    if usize::from(row) >= tree.len() {
-        bail!("no such row");
-    }
-    Ok(dl_status(tree, row))
+    listed(words, &statuses, told)
 }
 
 /// The tree that statuses list.
-pub(crate) fn shape_of(alloc: Global, words: &[&str]) -> anyhow::Result<String> {
+pub(crate) fn shape_told(
+    alloc: Global,
+    words: &mut Words<'_>,
+    told: &mut String,
+) -> Result<(), AllocError> {
     let mut statuses = Vec::new(alloc);
-    for word in words {
-        statuses.push(status(word)?)?;
+    for _status in 0..words.most() {
+        if words.is_empty() {
+            break;
+        }
+        statuses.push(words.status())?;
     }
-    listed(alloc, &statuses)
+    listed(words, &statuses, told)
 }
 
-fn listed(alloc: Global, statuses: &[u16]) -> anyhow::Result<String> {
+fn listed(words: &mut Words<'_>, statuses: &[u16], told: &mut String) -> Result<(), AllocError> {
+    if statuses.len() > 256 {
+        words.refuse();
+        return Ok(());
+    }
     // What stood there before is gone after a refusal.
     let mut shape = Shape::new();
     let _ = topology(&[0x5610], &mut shape);
-    let answer = find(statuses, &mut shape)?;
-    let mut told = match answer {
-        Ok(()) => format!(in alloc; "shape")?,
-        Err(TopologyError::BadStatus(position)) => format!(in alloc; "bad status {position}")?,
-        Err(TopologyError::Surplus(position)) => format!(in alloc; "surplus {position}")?,
-        Err(TopologyError::Missing) => format!(in alloc; "missing")?,
-    };
+    match topology(statuses, &mut shape) {
+        Ok(()) => told.push_str("shape")?,
+        Err(TopologyError::BadStatus(position)) => write!(told, "bad status {position}")?,
+        Err(TopologyError::Surplus(position)) => write!(told, "surplus {position}")?,
+        Err(TopologyError::Missing) => told.push_str("missing")?,
+    }
     for position in 0..shape.len() as u16 {
-        told.push_str(&slave_told(alloc, &shape, position)?)?;
+        slave_told(&shape, position, told)?;
     }
-    Ok(told)
-}
-
-/// The answer of `topology`.
-pub(crate) fn find(
-    statuses: &[u16],
-    shape: &mut Shape,
-) -> anyhow::Result<Result<(), TopologyError>> {
-    if statuses.len() > 256 {
-        bail!("a segment has at most 256 slaves");
-    }
-    Ok(topology(statuses, shape))
+    Ok(())
 }
 
 // Where a slave hangs, and behind a colon its connected ports.
-fn slave_told(alloc: Global, shape: &Shape, position: u16) -> anyhow::Result<String> {
-    if usize::from(position) >= shape.len() {
-        bail!("no such slave");
-    }
-    let hung = place_word(alloc, shape.above(position))?;
-    let mut told = format!(in alloc; " {hung}:")?;
+fn slave_told(shape: &Shape, position: u16, told: &mut String) -> Result<(), AllocError>
+    requires { position < length shape.now }
+{
+    told.push_str(" ")?;
+    place_told(shape.above(position), told)?;
+    told.push_str(":")?;
     for port in [Port::P3, Port::P1, Port::P2] {
         if shape.connected(position, port) {
-            told.push_str(&format!(in alloc; "{}", port_number(port))?)?;
+            write!(told, "{}", port_number(port))?;
         }
     }
-    Ok(told)
+    Ok(())
 }

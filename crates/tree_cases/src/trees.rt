@@ -1,89 +1,96 @@
-use crate::words::{number_or_none, parts, place, place_word};
-use anyhow::bail;
+ghost use Rattle.std.specs.Prelude.{◌<◌, length};
+
+use crate::words::{Words, number_told, place_told};
 use cable_tree::{Port, Tree, TreeError, TreeRow};
-use std::alloc::Global;
+use std::alloc::{AllocError, Global};
 
 /// Whether three numbers, tP, tF and the cable, are those of a row.
-pub(crate) fn is_row(alloc: Global, words: &[&str]) -> anyhow::Result<String> {
-    let [tp_ns, tf_ns, cable_ps] = words else {
-        bail!("a row has tP, tF and a cable");
-    };
-    let row = TreeRow::new(None, tp_ns.parse()?, tf_ns.parse()?, cable_ps.parse()?);
-    Ok(match row {
-        Some(_) => format!(in alloc; "yes")?,
-        None => format!(in alloc; "no")?,
+pub(crate) fn is_row(words: &mut Words<'_>, told: &mut String) -> Result<(), AllocError> {
+    let tp_ns = words.number(0, 65_535) as u16;
+    let tf_ns = words.number(0, 65_535) as u16;
+    let cable_ps = words.number(0, 4_294_967_295) as u32;
+    told.push_str(match TreeRow::new(None, tp_ns, tf_ns, cable_ps) {
+        Some(_) => "yes",
+        None => "no",
     })
 }
 
 /// What a tree answers.
-pub(crate) fn tree_of(alloc: Global, words: &[&str]) -> anyhow::Result<String> {
+pub(crate) fn tree_told(
+    alloc: Global,
+    words: &mut Words<'_>,
+    told: &mut String,
+) -> Result<(), AllocError> {
     let mut rows = Vec::new(alloc);
-    for word in words {
-        rows.push(row_of(alloc, word)?)?;
+    for _row in 0..words.most() {
+        if words.is_empty() {
+            break;
+        }
+        match row(words) {
+            Some(row) => rows.push(row)?,
+            None => words.refuse(),
+        }
     }
-    match tree(alloc, &rows)? {
-        Ok(tree) => told(alloc, &tree),
-        Err(error) => refusal(alloc, error),
+    match tree(alloc, words, &rows) {
+        Ok(tree) => numbers_told(&tree, told),
+        Err(error) => refusal_told(error, told),
     }
 }
 
-/// The tree of these rows, or why they are none.
-pub(crate) fn tree(alloc: Global, rows: &[TreeRow]) -> anyhow::Result<Result<Tree, TreeError>> {
+fn row(words: &mut Words<'_>) -> Option<TreeRow> {
+    let above = words.place();
+    let tp_ns = words.number(0, 65_535) as u16;
+    let tf_ns = words.number(0, 65_535) as u16;
+    let cable_ps = words.number(0, 4_294_967_295) as u32;
+    TreeRow::new(above, tp_ns, tf_ns, cable_ps)
+}
+
+/// The tree of these rows, or why they are none. More than 256 are refused as words.
+pub(crate) fn tree(
+    alloc: Global,
+    words: &mut Words<'_>,
+    rows: &[TreeRow],
+) -> Result<Tree, TreeError> {
     if rows.len() > 256 {
-        bail!("a tree has at most 256 rows");
+        words.refuse();
+        return Err(TreeError::Empty);
     }
-    Ok(Tree::new(alloc, rows))
+    Tree::new(alloc, rows)
 }
 
-fn row_of(alloc: Global, word: &str) -> anyhow::Result<TreeRow> {
-    let parts = parts(alloc, word)?;
-    let [hung, tp_ns, tf_ns, cable_ps] = parts.as_slice() else {
-        bail!("a row is HUNG:TP:TF:CABLE");
-    };
-    let above = place(hung)?;
-    match TreeRow::new(above, tp_ns.parse()?, tf_ns.parse()?, cable_ps.parse()?) {
-        Some(row) => Ok(row),
-        None => bail!("tP, tF and the cable are within the limits"),
+/// Writes why rows are no tree.
+pub(crate) fn refusal_told(error: TreeError, told: &mut String) -> Result<(), AllocError> {
+    match error {
+        TreeError::Empty => told.push_str("empty"),
+        TreeError::NoParent(row) => write!(told, "no parent {row}"),
+        TreeError::TwoRoots(row) => write!(told, "two roots {row}"),
+        TreeError::PortTaken(row) => write!(told, "port taken {row}"),
+        TreeError::Cycle(row) => write!(told, "cycle {row}"),
+        TreeError::NoMemory => Err(AllocError),
     }
-}
-
-/// Why rows are no tree.
-pub(crate) fn refusal(alloc: Global, error: TreeError) -> anyhow::Result<String> {
-    Ok(match error {
-        TreeError::Empty => format!(in alloc; "empty")?,
-        TreeError::NoParent(row) => format!(in alloc; "no parent {row}")?,
-        TreeError::TwoRoots(row) => format!(in alloc; "two roots {row}")?,
-        TreeError::PortTaken(row) => format!(in alloc; "port taken {row}")?,
-        TreeError::Cycle(row) => format!(in alloc; "cycle {row}")?,
-        TreeError::NoMemory => bail!("no memory for a tree"),
-    })
 }
 
 // The frame order, the round trip, and the numbers of each row.
-fn told(alloc: Global, tree: &Tree) -> anyhow::Result<String> {
-    let mut told = format!(in alloc; "order")?;
+fn numbers_told(tree: &Tree, told: &mut String) -> Result<(), AllocError> {
+    told.push_str("order")?;
     for row in tree.order() {
-        told.push_str(&format!(in alloc; " {row}")?)?;
+        write!(told, " {row}")?;
     }
-    told.push_str(&format!(in alloc; " trip {}", tree.round_trip())?)?;
+    write!(told, " trip {}", tree.round_trip())?;
     for row in 0..tree.len() as u16 {
-        told.push_str(&row_told(alloc, tree, row)?)?;
+        row_told(tree, row, told)?;
     }
-    Ok(told)
+    Ok(())
 }
 
-fn row_told(alloc: Global, tree: &Tree, row: u16) -> anyhow::Result<String> {
-    if usize::from(row) >= tree.len() {
-        bail!("no such row");
-    }
-    let position = tree.position(row);
-    let (span, arrive) = (tree.span(row), tree.arrive(row));
-    let mut told = format!(in alloc; " | {position} {span} {arrive}")?;
+fn row_told(tree: &Tree, row: u16, told: &mut String) -> Result<(), AllocError>
+    requires { row < length tree.now }
+{
+    let (position, span, arrive) = (tree.position(row), tree.span(row), tree.arrive(row));
+    write!(told, " | {position} {span} {arrive}")?;
     for port in [Port::P3, Port::P1, Port::P2] {
-        let back = number_or_none(alloc, tree.port_time(row, port))?;
-        told.push_str(&format!(in alloc; " {back}")?)?;
+        number_told(tree.port_time(row, port), told)?;
     }
-    let hung = place_word(alloc, tree.above(row))?;
-    told.push_str(&format!(in alloc; " {hung}")?)?;
-    Ok(told)
+    told.push_str(" ")?;
+    place_told(tree.above(row), told)
 }

@@ -1,51 +1,60 @@
-use crate::trees::{refusal, tree};
-use crate::words::{number_or_none, parts, place};
-use anyhow::bail;
+use crate::trees::{refusal_told, tree};
+use crate::words::{Words, number_told};
 use cable_tree::{Tree, TreeRow};
 use dc_bounds::{reference, unmeasurable, weight};
-use std::alloc::Global;
+use std::alloc::{AllocError, Global};
 
 /// The reference, the slave that cannot be measured, and where there is none, the weight of each clock.
-pub(crate) fn weights_of(alloc: Global, words: &[&str]) -> anyhow::Result<String> {
+pub(crate) fn weights_told(
+    alloc: Global,
+    words: &mut Words<'_>,
+    told: &mut String,
+) -> Result<(), AllocError> {
     let mut rows = Vec::new(alloc);
     let mut measuring = Vec::new(alloc);
     let mut timed = Vec::new(alloc);
-    for word in words {
-        let parts = parts(alloc, word)?;
-        let [hung, kind] = parts.as_slice() else {
-            bail!("a slave is HUNG:KIND");
-        };
-        match TreeRow::new(place(hung)?, 310, 300, 50_000) {
-            Some(row) => rows.push(row)?,
-            None => bail!("310, 300 and 50,000 are within the limits"),
+    for _row in 0..words.most() {
+        if words.is_empty() {
+            break;
         }
-        measuring.push(matches!(*kind, "clock" | "only"))?;
-        timed.push(matches!(*kind, "clock" | "timed"))?;
+        match TreeRow::new(words.place(), 310, 300, 50_000) {
+            Some(row) => rows.push(row)?,
+            None => words.refuse(),
+        }
+        let kind = words.next();
+        if kind != "clock" && kind != "only" && kind != "none" {
+            words.refuse();
+        }
+        measuring.push(kind != "none")?;
+        timed.push(kind == "clock")?;
     }
-    match tree(alloc, &rows)? {
-        Ok(tree) => told(alloc, &tree, &measuring, &timed),
-        Err(error) => refusal(alloc, error),
+    match tree(alloc, words, &rows) {
+        Ok(tree) => flags_told(&tree, &measuring, &timed, told),
+        Err(error) => refusal_told(error, told),
     }
 }
 
-fn told(alloc: Global, tree: &Tree, measuring: &[bool], timed: &[bool]) -> anyhow::Result<String> {
+fn flags_told(
+    tree: &Tree,
+    measuring: &[bool],
+    timed: &[bool],
+    told: &mut String,
+) -> Result<(), AllocError> {
     if measuring.len() != tree.len() || timed.len() != tree.len() {
-        bail!("one entry for each row");
+        return told.push_str("another number of rows");
     }
-    let first = number_or_none(alloc, reference(tree, timed).map(u64::from))?;
-    let mut told = format!(in alloc; "reference {first}")?;
+    told.push_str("reference")?;
+    number_told(reference(tree, timed).map(u64::from), told)?;
     if let Some(row) = unmeasurable(tree, measuring) {
-        told.push_str(&format!(in alloc; " unmeasurable {row}")?)?;
-        return Ok(told);
+        return write!(told, " unmeasurable {row}");
     }
     told.push_str(" weights")?;
     for row in 0..tree.len() as u16 {
         if timed[usize::from(row)] {
-            let weight = weight(tree, measuring, timed, row);
-            told.push_str(&format!(in alloc; " {weight}")?)?;
+            write!(told, " {}", weight(tree, measuring, timed, row))?;
         } else {
             told.push_str(" -")?;
         }
     }
-    Ok(told)
+    Ok(())
 }

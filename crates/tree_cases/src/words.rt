@@ -1,48 +1,121 @@
-use anyhow::{Context, bail};
+ghost use Rattle.std.specs.Prelude.{◌≤◌};
+
 use cable_tree::{Above, Port};
-use std::alloc::Global;
-use wrap_time::{ClockWord, T32};
+use std::alloc::AllocError;
 
-/// The words of a line.
-pub(crate) fn words_of<'a>(alloc: Global, line: &'a str) -> anyhow::Result<Vec<&'a str>> {
-    let mut words = Vec::new(alloc);
-    for word in line.split_whitespace() {
-        words.push(word)?;
-    }
-    Ok(words)
+/// A case that is read word by word. A word ends at a space, a colon or a point.
+#[derive(Drop)]
+pub(crate) struct Words<'a> {
+    rest: &'a str,
+    is_refused: bool,
 }
 
-/// The parts of a word between colons.
-pub(crate) fn parts<'a>(alloc: Global, word: &'a str) -> anyhow::Result<Vec<&'a str>> {
-    let mut parts = Vec::new(alloc);
-    for part in word.split(':') {
-        parts.push(part)?;
+impl<'a> Words<'a> {
+    pub(crate) fn new(line: &'a str) -> Words<'a> {
+        Words {
+            rest: line,
+            is_refused: false,
+        }
     }
-    Ok(parts)
+
+    /// The next word, which is empty at the end of the case.
+    pub(crate) fn next(&mut self) -> &'a str {
+        let (word, rest) = self
+            .rest
+            .split_once([' ', ':', '.'])
+            .unwrap_or((self.rest, ""));
+        self.rest = rest;
+        word
+    }
+
+    /// All that is left, as one word.
+    pub(crate) fn last(&mut self) -> &'a str {
+        let last = self.rest;
+        self.rest = "";
+        last
+    }
+
+    /// A bound on the number of words that are left.
+    pub(crate) fn most(&self) -> usize {
+        self.rest.len()
+    }
+
+    pub(crate) fn is_empty(&self) -> bool {
+        self.rest.is_empty()
+    }
+
+    /// Notes a word that is none of those that may stand there; nothing is told of such a case.
+    pub(crate) fn refuse(&mut self) {
+        self.is_refused = true;
+    }
+
+    /// Whether the case was read to its end, and no word was refused.
+    pub(crate) fn are_read(&self) -> bool {
+        !self.is_refused && self.rest.is_empty()
+    }
+
+    /// A number from `least` to `most`. Any other word is refused.
+    pub(crate) fn number(&mut self, least: u128, most: u128) -> u128
+        requires { least ≤ most }
+        ensures { (least ≤ result) × (result ≤ most) }
+    {
+        match self.next().parse::<u128>() {
+            Ok(number) if least <= number && number <= most => number,
+            _ => {
+                self.refuse();
+                least
+            }
+        }
+    }
+
+    /// A DL status, in hexadecimal digits. Any other word is refused.
+    pub(crate) fn status(&mut self) -> u16 {
+        match u16::from_str_radix(self.next(), 16) {
+            Ok(status) => status,
+            Err(_) => {
+                self.refuse();
+                0
+            }
+        }
+    }
+
+    /// A time of 64 bits. Any other word is refused.
+    pub(crate) fn time(&mut self) -> u64 {
+        self.number(0, 18_446_744_073_709_551_615) as u64
+    }
+
+    /// Where a row hangs: nowhere, or at a port of another row. Any other words are refused.
+    pub(crate) fn place(&mut self) -> Option<Above> {
+        let word = self.next();
+        if word == "-" {
+            return None;
+        }
+        let row = match word.parse() {
+            Ok(row) => row,
+            Err(_) => {
+                self.refuse();
+                0
+            }
+        };
+        let port = match self.next() {
+            "1" => Port::P1,
+            "2" => Port::P2,
+            "3" => Port::P3,
+            _ => {
+                self.refuse();
+                Port::P1
+            }
+        };
+        Some(Above { row, port })
+    }
 }
 
-/// Where a row hangs: nowhere, or at a port of another row.
-pub(crate) fn place(word: &str) -> anyhow::Result<Option<Above>> {
-    if word == "-" {
-        return Ok(None);
+/// Writes where a row hangs.
+pub(crate) fn place_told(place: Option<Above>, told: &mut String) -> Result<(), AllocError> {
+    match place {
+        None => told.push_str("-"),
+        Some(above) => write!(told, "{}.{}", above.row, port_number(above.port)),
     }
-    let (row, port) = word.split_once('.').context("a place is - or ROW.PORT")?;
-    let port = match port {
-        "1" => Port::P1,
-        "2" => Port::P2,
-        "3" => Port::P3,
-        _ => bail!("a port is 1, 2 or 3"),
-    };
-    let row = row.parse()?;
-    Ok(Some(Above { row, port }))
-}
-
-/// The same as a word.
-pub(crate) fn place_word(alloc: Global, place: Option<Above>) -> anyhow::Result<String> {
-    Ok(match place {
-        None => format!(in alloc; "-")?,
-        Some(above) => format!(in alloc; "{}.{}", above.row, port_number(above.port))?,
-    })
 }
 
 pub(crate) fn port_number(port: Port) -> u8 {
@@ -53,21 +126,10 @@ pub(crate) fn port_number(port: Port) -> u8 {
     }
 }
 
-/// A DL status, in hexadecimal digits.
-pub(crate) fn status(word: &str) -> anyhow::Result<u16> {
-    Ok(u16::from_str_radix(word, 16)?)
-}
-
-/// A number, or `-`.
-pub(crate) fn number_or_none(alloc: Global, number: Option<u64>) -> anyhow::Result<String> {
-    Ok(match number {
-        None => format!(in alloc; "-")?,
-        Some(number) => format!(in alloc; "{number}")?,
-    })
-}
-
-/// A latched time.
-pub(crate) fn time(word: &str) -> anyhow::Result<T32> {
-    let time: u64 = word.parse()?;
-    Ok(T32::cut(time))
+/// Writes a space and a number, or `-`.
+pub(crate) fn number_told(number: Option<u64>, told: &mut String) -> Result<(), AllocError> {
+    match number {
+        None => told.push_str(" -"),
+        Some(number) => write!(told, " {number}"),
+    }
 }

@@ -1,1 +1,6 @@
-pub mod Shapes
+pub mod Merging
+pub mod Answering
+pub mod InOrder
+pub mod Through
+pub mod Step
+pub mod Starting

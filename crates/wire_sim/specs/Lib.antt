@@ -1,5 +1,2 @@
-pub mod LineSlave
-pub mod Clock
-pub mod PathSums
-pub mod Untouched
-pub mod Sending
+pub mod Seen
+pub mod InTime

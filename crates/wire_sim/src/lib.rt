@@ -1,24 +1,27 @@
-//! A wire with a line of slaves on it, each with a 64-bit clock (the registers are those of the ESC data sheet, section II, as far as
-//! commissioning reaches them).
+//! A segment of slaves in memory, over any tree of cables: what a master sends its frames over, and what it
+//! never looks into.
 //!
-//! A frame passes the slaves in turn, each at its own instant: [`arrive`], [`span`] and [`round_trip`] are the sums of the delays on its
-//! way, and a clock reads what its ticks have brought by then ([`LineSlave::reading`]). At a slave each datagram acts in its order. A
-//! write of 0x0900 latches the local time at port 0 and, when the frame comes back, at port 1.
+//! A [`Wire`] is a [`Link`](ecat_link::Link) whose state is told. [`Wire::build`] takes a legal segment and all
+//! the memory that the wire will ever need. A frame passes the slaves in frame order, each at its own instant,
+//! and each slave does what the frame's datagrams ask (ETG.1000.4, section 5.4); its ports latch at the
+//! instants at which the frame comes back into them. A frame that is listed as lost reaches only the first
+//! slaves.
 //!
-//! Provisional: a wire over any tree, with losses, takes its place. Contracts say which frames were sent and when, and what a slave
-//! leaves of a frame; which bytes a read gives is only tested.
+//! What a sending does is the step of `frame_pass`, and a wire is seen as the state of the segment there. One
+//! type stands in each file: the slave, the distributed clocks unit that it may have, the times at which a
+//! frame visits it. Of a slave's registers `esc_regs` knows the bytes, of its clock `local_clock` and
+//! `sync_units` the ticks; here they meet.
 #![tactic(auto)]
 
-mod frames;
-mod line_slave;
-mod path;
+mod build;
+mod datagram;
+mod dc_unit;
+mod doing;
+mod effects;
+mod pass;
 mod registers;
 mod slave;
+mod visits;
 mod wire;
 
-pub use line_slave::LineSlave;
-pub use path::{arrive, round_trip, span};
 pub use wire::Wire;
-
-#[cfg(test)]
-mod tests;

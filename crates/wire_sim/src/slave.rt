@@ -1,99 +1,156 @@
-// A slave on the wire, and what a datagram does there.
-ghost use Rattle.std.specs.Prelude.{◌≡◌, ◌+◌, ◌<◌, ◌≤◌, length, slice_get, Some};
-ghost use Rattle.wire_sim.specs.Untouched.{wiped, lengths_of};
+ghost use Rattle.std.specs.Prelude.{◌≡◌, ◌+◌, ◌≤◌, ◌↔◌, true, None, Some, length, slice_range};
+ghost use Rattle.esc_regs.specs.RegisterAccess.{is_refused};
+ghost use Rattle.esc_regs.specs.RegisterWrite.{told};
+ghost use Rattle.frame_pass.specs.SlaveState.{station, on_measuring};
+ghost use Rattle.frame_pass.specs.Advancing.{advanced_to};
+ghost use Rattle.frame_pass.specs.LiveRegisters.{live, read_of};
+ghost use Rattle.frame_pass.specs.WriteEffects.{wrote};
+ghost use Rattle.frame_pass.specs.FramePass.{port_latched};
+ghost use Rattle.frame_pass.specs.SegmentState.{expecting};
+ghost use Rattle.wire_sim.specs.Seen.{address_of, edges_kept, unit_told, HasWidth};
 
-use crate::frames::{count_access, count_slave, or_data, put_data};
-use crate::line_slave::LineSlave;
-use crate::registers::{Registers, latches};
-use ecat_frame::{Command, Frame};
+use crate::dc_unit::AnyUnit;
+use crate::effects::affect;
+use crate::visits::Visits;
+use cable_tree::Port;
+use esc_regs::{Access, Live, ReceivePort1, ReceivePort2, ReceivePort3, RegFile, Station, Written};
+use std::marker::Model;
+use sync_units::Edge;
+use wrap_time::ClockWord;
 
+/// A slave on the wire, at its present time.
 #[derive(Drop)]
 pub(crate) struct Slave {
-    line: LineSlave,
-    registers: Registers,
-    // Whether this frame latched, and is still to latch port 1 when it comes back.
-    latched: bool,
+    visits: Visits,
+    registers: RegFile,
+    unit: AnyUnit,
+}
+
+impl Model for Slave {
+    ghost use Rattle.frame_pass.specs.SlaveState as told;
+    ghost use Rattle.wire_sim.specs.Seen.{unit_told, HasWidth};
+
+    ghost Value = { told.Slave };
+
+    ghost view = { λ a. record { visits = a.visits; registers = a.registers; timing = unit_told a.unit } };
+
+    ghost invariant = { λ a. HasWidth a.unit a.registers.kind };
 }
 
 impl Slave {
-    pub(crate) fn new(line: LineSlave, status: u16) -> Slave {
+    /// A slave with these registers and this unit, which has the width of their kind.
+    pub(crate) fn new(visits: Visits, registers: RegFile, unit: AnyUnit) -> Slave
+        requires { HasWidth unit registers.kind }
+        ensures { result ≡ record { visits = visits; registers = registers; timing = unit_told unit } }
+    {
         Slave {
-            line,
-            registers: Registers::new(status),
-            latched: false,
+            visits,
+            registers,
+            unit,
         }
     }
 
-    /// Datagram k of a frame acts on the slave at this instant (fs).
-    pub(crate) fn pass(&mut self, frame: &mut Frame, k: usize, time_fs: u64)
-        requires { k < length (lengths_of frame.old) }
-        ensures same { wiped frame.new ≡ wiped frame.old }
-        ensures lengths { lengths_of frame.new ≡ lengths_of frame.old }
+    /// When a frame visits it.
+    pub(crate) fn visits(&self) -> Visits
+        ensures { result ≡ self.now.visits }
     {
-        let head = frame.datagram(k).head;
-        if self.acts(frame, k, time_fs) {
-            count_access(frame, k);
-        }
-        if matches!(
-            head.command,
-            Command::Aprd | Command::Apwr | Command::Brd | Command::Bwr
-        ) {
-            count_slave(frame, k);
-        }
+        self.visits
     }
 
-    // Whether the datagram speaks to the slave, and its access was made.
-    fn acts(&mut self, frame: &mut Frame, k: usize, time_fs: u64) -> bool
-        requires { k < length (lengths_of frame.old) }
-        ensures same { wiped frame.new ≡ wiped frame.old }
-        ensures lengths { lengths_of frame.new ≡ lengths_of frame.old }
+    /// The station address.
+    pub(crate) fn station(&self) -> u16
+        ensures { result ≡ station self.now.registers }
     {
-        let head = frame.datagram(k).head;
-        match head.command {
-            Command::Brd => self.read(frame, k, time_fs),
-            Command::Bwr => self.write(frame, k, time_fs),
-            Command::Aprd if head.adp == 0 => self.read(frame, k, time_fs),
-            Command::Apwr if head.adp == 0 => self.write(frame, k, time_fs),
-            Command::Fprd if head.adp == self.registers.station() => self.read(frame, k, time_fs),
-            Command::Fpwr if head.adp == self.registers.station() => self.write(frame, k, time_fs),
-            _ => false,
-        }
+        self.registers.get(Station::new())
     }
 
-    fn read(&mut self, frame: &mut Frame, k: usize, time_fs: u64) -> bool
-        requires { k < length (lengths_of frame.old) }
-        ensures same { wiped frame.new ≡ wiped frame.old }
-        ensures lengths { lengths_of frame.new ≡ lengths_of frame.old }
+    /// Lets time go on to `t`, in fs; a slave that stands later stays.
+    #[tactic(auto, unfolding(frame_pass::specs::Advancing::advanced_to))]
+    pub(crate) fn advance(&mut self, t: u64)
+        ensures { self.new ≡ advanced_to t self.old }
     {
-        self.registers.set_system_time(self.line.reading(time_fs));
-        let datagram = frame.datagram(k);
-        let head = datagram.head;
-        match self.registers.read(head.ado, datagram.payload.len()) {
-            Some(bytes) if head.command == Command::Brd => or_data(frame, k, bytes),
-            Some(bytes) => put_data(frame, k, bytes),
-            None => return false,
+        match &mut self.unit {
+            AnyUnit::Clockless => {}
+            AnyUnit::Narrow(unit) => unit.advance(&mut self.registers, t),
+            AnyUnit::Wide(unit) => unit.advance(&mut self.registers, t),
         }
-        true
     }
 
-    fn write(&mut self, frame: &Frame, k: usize, time_fs: u64) -> bool
-        requires { k < length (lengths_of frame.now) }
+    /// Stores what a frame writes, and carries out what that tells.
+    #[tactic(auto, unfolding(frame_pass::specs::WriteEffects::wrote))]
+    pub(crate) fn write(&mut self, addr: u16, bytes: &[u8]) -> Written
+        ensures is { self.new ≡ wrote addr bytes.now self.old }
+        ensures tells { result ≡ told self.old.registers.kind addr bytes.now }
     {
-        let datagram = frame.datagram(k);
-        let address = datagram.head.ado;
-        let is_done = self.registers.write(address, datagram.payload);
-        if is_done && latches(address, datagram.payload.len()) {
-            self.registers.latch_port_0(self.line.reading(time_fs));
-            self.latched = true;
+        let told = self.registers.write(addr, bytes);
+        match &mut self.unit {
+            AnyUnit::Clockless => {}
+            AnyUnit::Narrow(unit) => affect(&mut self.registers, unit, &told),
+            AnyUnit::Wide(unit) => affect(&mut self.registers, unit, &told),
         }
-        is_done
+        told
     }
 
-    /// The frame comes back into port 1 at this instant (fs).
-    pub(crate) fn come_back(&mut self, time_fs: u64) {
-        if self.latched {
-            self.registers.latch_port_1(self.line.reading(time_fs));
-            self.latched = false;
+    /// Fills `out` with what a frame reads from `addr` on; a refused read leaves it.
+    #[tactic(auto, unfolding(frame_pass::specs::LiveRegisters::read_of))]
+    pub(crate) fn read(&self, addr: u16, out: &mut [u8]) -> Access
+        ensures refused { result ≡ Access.Refused ↔ (is_refused self.now.registers.kind addr (length out.old) ≡ true) }
+        ensures none { result ≡ Access.Refused → read_of self.now addr (length out.old) ≡ None }
+        ensures some { result ≡ Access.Done → read_of self.now addr (length out.old) ≡ Some out.new }
+        ensures stays { result ≡ Access.Refused → out.new ≡ out.old }
+    {
+        self.registers.read_showing(addr, self.live(), out)
+    }
+
+    /// Expects an event of latch input 0 at the true time `t`, in fs, where it is not clockless.
+    pub(crate) fn expect(&mut self, t: u64)
+        ensures { self.new ≡ expecting t self.old }
+    {
+        match &mut self.unit {
+            AnyUnit::Clockless => {}
+            AnyUnit::Narrow(unit) => unit.input.expect(t),
+            AnyUnit::Wide(unit) => unit.input.expect(t),
+        }
+    }
+
+    /// The edges that are kept.
+    pub(crate) fn edges(&self) -> &[Edge]
+        ensures { result.now ≡ edges_kept self.now }
+    {
+        match &self.unit {
+            AnyUnit::Clockless => &[],
+            AnyUnit::Narrow(unit) => unit.edges.edges(),
+            AnyUnit::Wide(unit) => unit.edges.edges(),
+        }
+    }
+
+    fn live(&self) -> Live
+        ensures { result ≡ live self.now.registers self.now.timing }
+    {
+        match &self.unit {
+            AnyUnit::Clockless => Live {
+                system_time: None,
+                next_due: None,
+            },
+            AnyUnit::Narrow(unit) => unit.live(&self.registers),
+            AnyUnit::Wide(unit) => unit.live(&self.registers),
+        }
+    }
+
+    /// Puts the low half of the local time into the receive time of a port.
+    pub(crate) fn latch_port(&mut self, port: Port)
+        ensures { self.new ≡ on_measuring (port_latched (address_of port)) self.old }
+    {
+        let time = match &self.unit {
+            AnyUnit::Clockless => return,
+            AnyUnit::Narrow(unit) => unit.clock.reading().low(),
+            AnyUnit::Wide(unit) => unit.clock.reading().low(),
+        };
+        let time = time.value() as u32;
+        match port {
+            Port::P3 => self.registers.set(ReceivePort3::new(), time),
+            Port::P1 => self.registers.set(ReceivePort1::new(), time),
+            Port::P2 => self.registers.set(ReceivePort2::new(), time),
         }
     }
 }

@@ -1,141 +1,209 @@
-ghost use Rattle.std.specs.Prelude.{◌≡◌, ◌+◌, ◌-◌, ◌^◌, ◌<◌, ◌≤◌, length, min, IfOk};
-ghost use Rattle.wire_sim.specs.Untouched.{wiped, lengths_of};
-ghost use Rattle.wire_sim.specs.Sending.{next_instant, capped_count};
+ghost use Rattle.std.specs.Prelude.{◌≡◌, ◌+◌, ◌^◌, ◌<◌, ◌≤◌, ◌↔◌, true, None, Some, length, slice_get, IfOk, IfSome};
+ghost use Rattle.ecat_frame.specs.FrameGrammar.{IsFrame};
+ghost use Rattle.ecat_link.specs.Exchanges.{back_of};
+ghost use Rattle.esc_regs.specs.RegisterAccess.{is_refused};
+ghost use Rattle.segment_shape.specs.Losses.{loss_at};
+ghost use Rattle.segment_shape.specs.Slaves.{has_clock};
+ghost use Rattle.frame_pass.specs.LiveRegisters.{read_of};
+ghost use Rattle.frame_pass.specs.SegmentState.{phase_of, number_of, numbered, leaving, leaves_at, carried, segment_step, finished, expected_at};
+ghost use Rattle.segment_start.specs.Start.{started_segment};
+ghost use Rattle.wire_sim.specs.Seen.{edges_kept, StandsAtStart};
 
-use crate::line_slave::LineSlave;
-use crate::path::{arrive, round_trip, span};
+use crate::build::{losses, slaves};
+use crate::pass::{advance_all, carry_all, expect_at};
 use crate::slave::Slave;
 use dc_base::NoMemory;
-use ecat_frame::Frame;
+use ecat_frame::{Command, Frame};
+use ecat_link::{Link, Lost};
+use esc_regs::Access;
+use segment_file::Segment;
+use segment_shape::{LossList, Phase};
 use std::alloc::Global;
 use std::marker::Model;
+use sync_units::Edge;
 
-/// The most slaves of a line.
-const MOST: usize = 8;
+/// How many frames are sent; each one after them is lost before it leaves.
+const MOST_SENDINGS: u32 = 1_000_000;
 
-/// A wire with one to eight slaves in a line, each on port 1 of the one before it.
+/// The longest wait that counts, in ns: 10 ms.
+const LONGEST_WAIT_NS: u64 = 10_000_000;
+
+const FS_PER_NS: u64 = 1_000_000;
+
+/// A segment of slaves in memory. It stands between two sendings.
 #[derive(Drop)]
 pub struct Wire {
-    line: Vec<LineSlave>,
     slaves: Vec<Slave>,
+    round_trip: u64,
+    losses: LossList,
+    commission: u32,
+    drift: u32,
     sent: u32,
-    instant_fs: u64,
+    lost: u64,
+    last: u64,
+    free: u64,
 }
 
 impl Model for Wire {
-    ghost use Rattle.std.specs.Prelude.{◌≡◌, ◌<◌, ◌≤◌, length};
-    ghost use Rattle.wire_sim.specs.Sending.{WireValue};
+    ghost use Rattle.frame_pass.specs.SegmentState.{SegmentState};
+    ghost use Rattle.wire_sim.specs.InTime.{IsInTime};
 
-    ghost Value = { WireValue };
+    ghost Value = { SegmentState };
 
-    ghost view = { λ w. record { slaves = w.line.items; sent = w.sent; instant = w.instant_fs } };
+    ghost view = { λ a. record { slaves = a.slaves.items; round_trip = a.round_trip; losses = a.losses; commission = a.commission; drift = a.drift; sent = a.sent; lost = a.lost; last = a.last; free = a.free } };
 
-    ghost invariant = { λ w. (length w.line.items ≡ length w.slaves.items) × (length w.line.items ≤ 8) };
+    ghost invariant = { λ a. IsInTime a.round_trip a.commission a.drift a.sent a.last a.free };
 }
 
 impl Wire {
-    /// A wire with these slaves, the first next to the master, at true time 0.
-    pub fn build(alloc: Global, line: &[LineSlave]) -> Result<Wire, NoMemory>
-        requires { length line.now ≤ 8 }
-        ensures { IfOk result (λ w. w ≡ record { slaves = line.now; sent = 0; instant = 0 }) }
+    /// The slaves of a segment in frame order, before the first frame. All memory is taken here, so that neither
+    /// frames nor edges take any.
+    #[tactic(auto, unfolding(segment_start::specs::Start::started_segment))]
+    pub fn build(alloc: Global, segment: &Segment) -> Result<Wire, NoMemory>
+        ensures { IfOk result (λ wire. wire ≡ started_segment segment.now) }
     {
-        let Ok(kept) = line.to_vec(alloc) else {
-            return Err(NoMemory);
-        };
-        let slaves = slaves(alloc, line)?;
         Ok(Wire {
-            line: kept,
-            slaves,
+            slaves: slaves(alloc, segment)?,
+            round_trip: segment.tree().round_trip(),
+            losses: losses(alloc, segment)?,
+            commission: 0,
+            drift: 0,
             sent: 0,
-            instant_fs: 0,
+            lost: 0,
+            last: 0,
+            free: 0,
         })
     }
 
-    /// The number of frames that were sent.
+    /// The number of frames that were sent, lost ones too.
     pub fn sent(&self) -> u32
         ensures { result ≡ self.now.sent }
     {
         self.sent
     }
 
-    /// Sends a frame a wait (ns) after the one before it, and gives it back as the slaves leave it.
-    pub fn exchange(&mut self, wait_ns: u64, frame: &mut Frame)
-        ensures slaves { self.new.slaves ≡ self.old.slaves }
-        ensures sent { self.new.sent ≡ capped_count (self.old.sent + 1) }
-        ensures instant { self.new.instant ≡ next_instant wait_ns self.old }
-        ensures same { wiped frame.new ≡ wiped frame.old }
-        ensures lengths { lengths_of frame.new ≡ lengths_of frame.old }
+    /// The number of frames that were lost, with those that were not sent any more.
+    pub fn lost(&self) -> u64
+        ensures { result ≡ self.now.lost }
     {
-        self.instant_fs = self.next_instant(wait_ns);
-        self.sent = self.sent.saturating_add(1);
-        pass(&self.line, &mut self.slaves, frame, self.instant_fs);
-        come_back(&self.line, &mut self.slaves, self.instant_fs);
+        self.lost
     }
 
-    fn next_instant(&self, wait_ns: u64) -> u64
-        ensures { result ≡ next_instant wait_ns self.now }
+    // Numbers a frame of this phase, which leaves now, and tells how many slaves it reaches, `None` where it
+    // is not lost.
+    fn leave(&mut self, wait_ns: u64, phase: Phase) -> Option<u16>
+        requires { self.old.sent < 1000000 }
+        ensures is { self.new ≡ numbered phase (leaving (leaves_at self.old wait_ns) self.old) }
+        ensures lost { result ≡ loss_at self.new.losses phase (number_of phase self.new) }
+        ensures time { self.new.last + 10000000000000 < 2 ^ 64 }
     {
-        let waited = self
-            .instant_fs
-            .saturating_add(1_000_000 * wait_ns.min(10_000_000));
-        if self.sent == 0 {
-            return waited;
-        }
-        waited.max(self.instant_fs.saturating_add(round_trip(&self.line)))
-    }
-}
-
-// The slaves as they stand at the start. Ports 0 and 1 are connected, at the last slave port 0 alone.
-fn slaves(alloc: Global, line: &[LineSlave]) -> Result<Vec<Slave>, NoMemory>
-    ensures { IfOk result (λ v. length v.items ≡ length line.now) }
-{
-    let mut slaves = Vec::new(alloc);
-    for (position, slave) in line.iter().enumerate() {
-        let status = if position + 1 < line.len() {
-            0x5A30
-        } else {
-            0x5610
-        };
-        if slaves.push(Slave::new(*slave, status)).is_err() {
-            return Err(NoMemory);
+        let wait = wait_ns.min(LONGEST_WAIT_NS) * FS_PER_NS;
+        self.last = (self.last + wait).max(self.free);
+        self.free = self.last + self.round_trip;
+        self.sent += 1;
+        match phase {
+            Phase::Commission => {
+                self.commission += 1;
+                self.losses.after(phase, self.commission)
+            }
+            Phase::Drift => {
+                self.drift += 1;
+                self.losses.after(phase, self.drift)
+            }
         }
     }
-    Ok(slaves)
-}
 
-// A frame that was sent at this instant (fs) goes through the slaves in turn.
-fn pass(line: &[LineSlave], slaves: &mut [Slave], frame: &mut Frame, sent_fs: u64)
-    requires few { length line.now ≤ 8 }
-    requires each { length line.now ≡ length slaves.old }
-    ensures same { wiped frame.new ≡ wiped frame.old }
-    ensures lengths { lengths_of frame.new ≡ lengths_of frame.old }
-{
-    for position in 0..line.len() {
-        let time_fs = sent_fs.saturating_add(arrive(line, position));
-        let slave = &mut slaves[position];
-        pass_one(slave, frame, time_fs);
+    // The frame that left reaches all slaves and comes back (`None`), or some, and is lost.
+    fn carry(&mut self, after: Option<u16>, frame: &mut Frame) -> Result<(), Lost>
+        requires { self.old.last + 10000000000000 < 2 ^ 64 }
+        ensures state { self.new ≡ (carried after self.old frame.old).0 }
+        ensures back { back_of result frame.new ≡ (carried after self.old frame.old).1 }
+        ensures valid { IsFrame frame.new }
+    {
+        carry_all(&mut self.slaves, after, frame, self.last);
+        frame.in_grammar();
+        match after {
+            None => Ok(()),
+            Some(_) => {
+                self.lost = self.lost.saturating_add(1);
+                Err(Lost)
+            }
+        }
+    }
+
+    /// Advances every slave's clock to the true time `t`, in fs; a clock that stands later stays. Exchanges may
+    /// follow, none of them before `t`.
+    #[tactic(auto, unfolding(frame_pass::specs::SegmentState::finished))]
+    pub fn finish(&mut self, t: u64)
+        requires { t ≤ 8000000000000000000 }
+        ensures { self.new ≡ finished t self.old }
+    {
+        advance_all(&mut self.slaves, t);
+        self.free = self.free.max(t);
+    }
+
+    /// An event of latch input 0 comes at the slave at this position at the true time `t`, in fs.
+    #[tactic(auto, unfolding(frame_pass::specs::SegmentState::expected_at))]
+    pub fn expect_event(&mut self, position: u16, t: u64)
+        requires unsent { self.old.sent ≡ 0 }
+        requires within { position < length self.old.slaves }
+        requires clock { IfSome (slice_get self.old.slaves position) StandsAtStart }
+        ensures { self.new ≡ expected_at position t self.old }
+    {
+        expect_at(&mut self.slaves, position, t);
+    }
+
+    /// The edges that the slave at this position has raised since it was armed, as far as they are kept, in order
+    /// of time, SYNC0 before SYNC1 at one tick. A slave that is no clock has none.
+    pub fn edges(&self, position: u16) -> &[Edge]
+        requires { position < length self.now.slaves }
+        ensures { IfSome (slice_get self.now.slaves position) (λ s. result.now ≡ edges_kept s) }
+    {
+        self.slaves[usize::from(position)].edges()
+    }
+
+    /// Fills `out` with what a frame would read at the slave at this position, from `addr` on, at the slave's
+    /// present time. A refused read leaves it.
+    pub fn register(&self, position: u16, addr: u16, out: &mut [u8]) -> Access
+        requires { position < length self.now.slaves }
+        ensures refused { IfSome (slice_get self.now.slaves position)
+            (λ s. result ≡ Access.Refused ↔ (is_refused s.registers.kind addr (length out.old) ≡ true)) }
+        ensures bytes { IfSome (slice_get self.now.slaves position)
+            (λ s. result ≡ Access.Done → read_of s addr (length out.old) ≡ Some out.new) }
+        ensures stays { result ≡ Access.Refused → out.new ≡ out.old }
+    {
+        self.slaves[usize::from(position)].read(addr, out)
     }
 }
 
-// All datagrams act on one slave, in their order.
-fn pass_one(slave: &mut Slave, frame: &mut Frame, time_fs: u64)
-    ensures same { wiped frame.new ≡ wiped frame.old }
-    ensures lengths { lengths_of frame.new ≡ lengths_of frame.old }
-{
-    for k in 0..frame.count() {
-        slave.pass(frame, k, time_fs);
+impl Link for Wire {
+    type State = Wire;
+
+    ghost lost = { λ s. s.lost };
+
+    ghost state = { λ s. Some s };
+
+    ghost step = { segment_step };
+
+    fn exchange(&mut self, wait_ns: u64, frame: &mut Frame) -> Result<(), Lost> {
+        let phase = phase_of(frame);
+        if self.sent >= MOST_SENDINGS {
+            self.lost = self.lost.saturating_add(1);
+            return Err(Lost);
+        }
+        let after = self.leave(wait_ns, phase);
+        self.carry(after, frame)
     }
 }
 
-// The frame comes back through the slaves that have another one behind them.
-fn come_back(line: &[LineSlave], slaves: &mut [Slave], sent_fs: u64)
-    requires few { length line.now ≤ 8 }
-    requires each { length line.now ≡ length slaves.old }
+// A drift frame begins with a FRMW; every other is a commission frame.
+fn phase_of(frame: &Frame) -> Phase
+    ensures phase { result ≡ phase_of frame.now.datagrams }
+    ensures valid { IsFrame frame.now }
 {
-    for position in 1..line.len() {
-        let there = arrive(line, position);
-        let back = there + span(&line[position..]) + line[position].cable_fs();
-        let slave = &mut slaves[position - 1];
-        slave.come_back(sent_fs.saturating_add(back));
+    frame.in_grammar();
+    match frame.datagram(0).head.command {
+        Command::Frmw => Phase::Drift,
+        _ => Phase::Commission,
     }
 }

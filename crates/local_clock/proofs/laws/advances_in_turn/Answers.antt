@@ -1,5 +1,8 @@
-use Rattle.local_clock.proofs.ManyTicks.{advanced_twice, advanced_reading, advanced_tick, ticks_to_tick}
+use Rattle.local_clock.proofs.ManyTicks.{advanced_here, advanced_twice, advanced_reading, advanced_tick, ticks_to_tick}
 use Rattle.local_clock.proofs.laws.advances_in_turn.Goals as goal
+
+pub returns-clause-here : goal.returns-clause-here
+returns-clause-here c = advanced_here
 
 pub returns-clause-twice : goal.returns-clause-twice
 returns-clause-twice c = advanced_twice

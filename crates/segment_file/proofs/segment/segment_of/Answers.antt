@@ -1,12 +1,11 @@
-use Rattle.std.proofs.Common.{◌≡◌, map, length, sym, subst, ap, ◌∙◌}
+use Rattle.std.proofs.Common.{◌≡◌, map, sym, subst, ap}
 use Rattle.std.specs.Prelude.{Some}
 use Rattle.std.specs.List.{All}
 use Rattle.cable_tree.specs.Row.{IsRow}
-use Rattle.segment_shape.specs.Ranges.{IsLoss}
 use Rattle.segment_shape.specs.Seen.{head_seen, shape_seen}
 use Rattle.segment_file.specs.Seen.{row_seen, counts_seen}
 use Rattle.segment_file.specs.Segment.{tree_row, tree_rows, reference_row, counts_of}
-use Rattle.segment_file.proofs.RowLemmas.{all_before_map, rows_of_slaves, as_many, legal_rows}
+use Rattle.segment_file.proofs.RowLemmas.{all_before_map, rows_of_slaves, legal_rows}
 use Rattle.segment_file.proofs.segment.segment_of.Goals as goal
 
 pub tree_of-requires-clause-rows : goal.tree_of-requires-clause-rows

@@ -1,4 +1,4 @@
-use Rattle.std.proofs.Common.{◌∙◌, ◌^◌, ◌<◌, sym, ap, arith, Ok}
+use Rattle.std.proofs.Common.{◌∙◌, ◌^◌, ◌<◌, sym, arith}
 use Rattle.std.specs.Prelude.{codes}
 use Rattle.std.proofs.lemmas.List.{length-append}
 use Rattle.segment_shape.specs.Losses.{loss_in}

@@ -1,6 +1,7 @@
 use Rattle.std.proofs.Common.{◌≡◌, ◌+◌, ◌≤◌, false, length, sym, ap, ◌∙◌, arith}
 use Rattle.std.specs.Option.{is_some}
 use Rattle.esc_regs.specs.RegisterAccess.{is_refused}
+use Rattle.esc_regs.proofs.Bytes.{bytes_after_write, bytes_below}
 use Rattle.esc_regs.proofs.Zeros.{zeros_after_write, zeros_along}
 use Rattle.esc_regs.proofs.Storing.{stores, not_past, told_bounds, write_is, write_tells}
 use Rattle.esc_regs.proofs.register_file.RegFile.write.Goals as goal
@@ -13,10 +14,14 @@ pub invariant_of-self : goal.invariant_of-self
 invariant_of-self c =
     let fits = not_past c.self.inside.kind c.from-start.result (length c.args.bytes.now) (done c) in
     let room : c.from-start.result + length c.args.bytes.now ≤ length c.self.inside.bytes = omega (arith, fits, c.self.told) in
-    zeros_along _ _ _ c.store_bytes.ensures (zeros_after_write _ _ _ _ _ _ (stores c.self.inside.kind c.is_some.result c.from-start.result c.args.bytes.now c.self.inside.bytes room) c.self.invariant)
+    let s = stores c.self.inside.kind c.is_some.result c.from-start.result c.args.bytes.now c.self.inside.bytes room in
+    let are = bytes_below c.args.bytes.now (λ j. let fit = c.type_inv.bytes j in omega (arith, fit)) in (
+      zeros_along _ _ _ c.store_bytes.ensures (zeros_after_write _ _ _ _ _ _ s c.self.invariant.0),
+      rw c.store_bytes.ensures (bytes_after_write _ _ _ _ _ _ s are c.self.invariant.1),
+    )
 
 pub returns-clause-whole : goal.returns-clause-whole
-returns-clause-whole c = record { size = omega (arith, c.store_bytes.auto.bytes_held, c.self.told); zeros = invariant_of-self c }
+returns-clause-whole c = record { size = omega (arith, c.store_bytes.auto.bytes_held, c.self.told); zeros = (invariant_of-self c).0; are_bytes = (invariant_of-self c).1 }
 
 pub returns-clause-is : goal.returns-clause-is
 returns-clause-is c =

@@ -16,6 +16,6 @@ invariant_of-self-2 c =
     c.or.ensures ∙ ap (λ o. option_or o (Some c.args.row.after)) (c.after-known.ensures ∙ ap (λ rs. loss_at rs c.args.row.phase c.args.row.number) (sym c.self.view_is)) in
     record {
       numbers = subst (All (λ r. IsNumber r.number)) (sym pushed) (All-push (λ r. IsNumber r.number) rows c.args.row c.self.invariant.numbers c.requires);
-      table = subst (λ rs. IsTable rs (with_item c.self.inside.table c.place_of-place.result c.or.result).items) (sym pushed)
-          (pushed_table rows c.args.row c.self.inside.table.items c.place_of-place.result c.or.result c.requires c.self.invariant.table c.place_of-place.ensures new);
+      table = subst (λ rs. IsTable rs (with_item c.self.inside.table c.table_place-place.result c.or.result).items) (sym pushed)
+          (pushed_table rows c.args.row c.self.inside.table.items c.table_place-place.result c.or.result c.requires c.self.invariant.table c.table_place-place.ensures new);
     }

@@ -1,0 +1,11 @@
+pub mod Sizes
+pub mod Keeping
+pub mod Sound
+pub mod Unreached
+pub mod Reply
+pub mod Schedule
+pub mod History
+pub mod Units
+pub mod Plain
+pub mod Fixed
+pub mod AtPositions

@@ -1,0 +1,14 @@
+pub mod SlaveState
+pub mod LiveRegisters
+pub mod WriteEffects
+pub mod DatagramTable
+pub mod DatagramAtSlave
+pub mod Advancing
+pub mod FramePass
+pub mod SegmentState
+pub mod Reach
+pub mod Replies
+pub mod Invariants
+pub mod ClockHistory
+pub mod UnitHistory
+pub mod PlainRegisters

@@ -1,0 +1,2 @@
+pub mod FirstTick
+pub mod InTurn

@@ -1,0 +1,2 @@
+pub mod MasterOfFile
+pub mod RunOfFile

@@ -1,0 +1,3 @@
+pub mod Registers
+pub mod Starts
+pub mod Times

@@ -1,0 +1,39 @@
+//! Laws over the definitions alone, for proofs of the layers above. They speak of any legal segment.
+
+ghost use Rattle.std.specs.Prelude.{◌≡◌, ℕ, ◌+◌, ◌*◌, ◌<◌, ◌≤◌, ◌^◌, List, [], length, Some, IfSome, slice_get, slice_index};
+ghost use Rattle.ecat_frame.specs.FrameGrammar.{FrameValue};
+ghost use Rattle.osc_clock.specs.Ticks.{IsRunning};
+ghost use Rattle.cable_tree.specs.FrameOrder.{order};
+ghost use Rattle.segment_file.specs.Segment.{SegmentValue, tree_rows};
+ghost use Rattle.segment_file.specs.Legal.{IsLegal};
+ghost use Rattle.frame_pass.specs.SlaveState.{Timing, width};
+ghost use Rattle.frame_pass.specs.SegmentState.{leaves_at};
+ghost use Rattle.frame_pass.specs.Invariants.{IsSoundSegment, IsUnsent, after_frames};
+ghost use Rattle.frame_pass.specs.ClockHistory.{HasHistory};
+ghost use Rattle.segment_start.specs.Start.{slave_of, started_segment};
+
+/// Nothing was sent yet, and every slave stands at true time 0, with 4096 bytes of registers and visits within the
+/// round trip. So time goes on from there (the law of `frame_pass` on times).
+pub fn starts_in_order()
+    ensures timely { (s : SegmentValue) → IsLegal s → IsSoundSegment (started_segment s) }
+    ensures unsent { (s : SegmentValue) → IsUnsent (started_segment s) }
+{}
+
+/// The slaves stand in frame order, one for each row.
+pub fn slaves_in_frame_order()
+    ensures count { (s : SegmentValue) → IsLegal s → length (started_segment s).slaves ≡ length s.rows }
+    ensures each { (s : SegmentValue) (p : ℕ) → IsLegal s → p < length s.rows
+        → slice_get (started_segment s).slaves p ≡ Some (slave_of s (slice_index (order (tree_rows s.rows)) p)) }
+{}
+
+/// The clock of each measuring slave begins without a history, shows a word of its width, and runs.
+pub fn clocks_begin()
+    ensures { (s : SegmentValue) (r : ℕ) → IsLegal s → r < length s.rows
+        → IfSome (slave_of s r).timing (λ m. HasHistory (width (slave_of s r).registers.kind) m.clock [] (slave_of s r) × IsRunning m.clock.osc × (m.clock.instant ≡ 0)) }
+{}
+
+/// Where each frame of a legal segment is sent a frame period after the one before, sending s leaves at s periods.
+pub fn sending_times()
+    ensures { (s : SegmentValue) (fs : List FrameValue) → IsLegal s → length fs < 1000000
+        → leaves_at (after_frames s.head.frame_ns fs (started_segment s)) s.head.frame_ns ≡ (length fs + 1) * (1000000 * s.head.frame_ns) }
+{}

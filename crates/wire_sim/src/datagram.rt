@@ -1,0 +1,131 @@
+//! A datagram at one slave.
+
+ghost use Rattle.std.specs.Prelude.{◌≡◌, ◌==◌, ◌<◌, ◌≤◌, false, length, slice_get, IfSome, if◌then◌else◌};
+ghost use Rattle.std.specs.Option.{is_some, unwrap_or};
+ghost use Rattle.ecat_frame.specs.Changed.{changed};
+ghost use Rattle.ecat_frame.specs.Reading.{seen};
+ghost use Rattle.frame_pass.specs.DatagramTable.{Passes, doing_by, reads, writes, raises_adp, raised_by};
+ghost use Rattle.frame_pass.specs.SlaveState.{station};
+ghost use Rattle.frame_pass.specs.DatagramAtSlave.{asked, doing, merged, payload_after, datagram_after, slave_after, is_latching};
+ghost use Rattle.wire_sim.specs.Seen.{doing_seen};
+
+use crate::doing::{Doing, merges, raises_adp};
+use crate::slave::Slave;
+use ecat_frame::{Datagram, Frame, Head};
+use esc_regs::Access;
+
+/// Datagram k of a frame at a slave, and whether it makes the slave's ports latch.
+///
+/// The room is for the data, and its bytes do not matter.
+pub(crate) fn answer(slave: &mut Slave, frame: &mut Frame, k: usize, room: &mut [u8]) -> bool
+    requires within { k < length frame.old.datagrams }
+    requires room { 2048 ≤ length room.old }
+    ensures frame { frame.new ≡ changed k (datagram_after slave.old) frame.old }
+    ensures slave { IfSome (slice_get frame.old.datagrams k) (λ d. slave.new ≡ slave_after slave.old d) }
+    ensures latches { IfSome (slice_get frame.old.datagrams k) (λ d. result ≡ is_latching slave.old d) }
+    ensures room { length room.new ≡ length room.old }
+{
+    let size = frame.datagram(k).payload.len();
+    answer_in(slave, frame, k, &mut room[..size])
+}
+
+// The same, with just the room for the datagram's data.
+fn answer_in(slave: &mut Slave, frame: &mut Frame, k: usize, room: &mut [u8]) -> bool
+    requires within { k < length frame.old.datagrams }
+    requires size { IfSome (slice_get frame.old.datagrams k) (λ d. length room.old ≡ length d.payload) }
+    ensures frame { frame.new ≡ changed k (datagram_after slave.old) frame.old }
+    ensures slave { IfSome (slice_get frame.old.datagrams k) (λ d. slave.new ≡ slave_after slave.old d) }
+    ensures latches { IfSome (slice_get frame.old.datagrams k) (λ d. result ≡ is_latching slave.old d) }
+    ensures room { length room.new ≡ length room.old }
+{
+    let datagram = frame.datagram(k);
+    let request = request(slave, datagram.head);
+    let read = gather(slave, request, &datagram, room);
+    let written = act(slave, request, &datagram);
+    let doing = done_by(request, read | written.is_some());
+    let adp = adp_after(datagram.head);
+    let wkc = datagram.wkc.wrapping_add(doing.gain());
+    frame.set_answer(k, adp, room, wkc);
+    written.unwrap_or(false)
+}
+
+// What a datagram asks of the slave.
+fn request(slave: &Slave, head: Head) -> Doing
+    ensures { doing_seen result ≡ doing_by head.command (head.adp == 0) (head.adp == station slave.now.registers) }
+{
+    Doing::by(head.command, head.adp == 0, head.adp == slave.station())
+}
+
+// What was asked, where the slave did it: a refused access is passed on.
+fn done_by(request: Doing, acts: bool) -> Doing
+    ensures { doing_seen result ≡ (if acts then doing_seen request else Passes) }
+{
+    if acts { request } else { Doing::Passes }
+}
+
+// Puts the data behind the slave into the room, and tells whether the slave reads.
+fn gather(slave: &Slave, request: Doing, datagram: &Datagram, room: &mut [u8]) -> bool
+    requires request { doing_seen request ≡ asked slave.now (seen datagram.now) }
+    requires size { length room.old ≡ length datagram.now.payload.now }
+    ensures is { room.new ≡ payload_after (doing slave.now (seen datagram.now)) slave.now (seen datagram.now) }
+    ensures reads { result ≡ reads (doing slave.now (seen datagram.now)) }
+{
+    room.copy_from_slice(datagram.payload);
+    if !request.reads() {
+        return false;
+    }
+    match slave.read(datagram.head.ado, room) {
+        Access::Refused => false,
+        Access::Done => {
+            merge_if(merges(datagram.head.command), datagram.payload, room);
+            true
+        }
+    }
+}
+
+// The same as `merge`, where the command merges.
+fn merge_if(merges: bool, payload: &[u8], room: &mut [u8])
+    requires { length payload.now ≡ length room.old }
+    ensures { room.new ≡ (if merges then merged payload.now room.old else room.old) }
+{
+    if merges {
+        merge(payload, room);
+    }
+}
+
+// Adds the data to what was read, bit by bit.
+fn merge(payload: &[u8], room: &mut [u8])
+    requires { length payload.now ≡ length room.old }
+    ensures { room.new ≡ merged payload.now room.old }
+{
+    for (k, byte) in payload.iter().enumerate() {
+        room[k] = *byte | room[k];
+    }
+}
+
+// Writes the data as they were received. Tells whether the slave's ports latch, `None` where it does not write.
+fn act(slave: &mut Slave, request: Doing, datagram: &Datagram) -> Option<bool>
+    requires request { doing_seen request ≡ asked slave.old (seen datagram.now) }
+    ensures is { slave.new ≡ slave_after slave.old (seen datagram.now) }
+    ensures writes { is_some result ≡ writes (doing slave.old (seen datagram.now)) }
+    ensures latches { unwrap_or result false ≡ is_latching slave.old (seen datagram.now) }
+{
+    if !request.writes() {
+        return None;
+    }
+    let told = slave.write(datagram.head.ado, datagram.payload);
+    match told.access {
+        Access::Done => Some(told.latched),
+        Access::Refused => None,
+    }
+}
+
+fn adp_after(head: Head) -> u16
+    ensures { result ≡ (if raises_adp head.command then raised_by 1 head.adp else head.adp) }
+{
+    if raises_adp(head.command) {
+        head.adp.wrapping_add(1)
+    } else {
+        head.adp
+    }
+}
