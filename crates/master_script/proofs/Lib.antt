@@ -15,3 +15,4 @@ pub mod Known
 pub mod Staying
 pub mod Stages
 pub mod Worked
+pub mod Judging

@@ -53,7 +53,7 @@ positions_below : (n m : ℕ) → m ≤ n → Below n (positions m)
 positions_below n m h = range_below n 0 m (omega (arith, h))
 
 -- a tree has one place for each status
-abbrev HasLength : ℕ → Result (List Place) TopologyError → Type 0
+abbrev pub HasLength : ℕ → Result (List Place) TopologyError → Type 0
 HasLength n (Ok hung) = length hung ≡ n
 HasLength n (Err e) = Unit {0}
 
@@ -88,7 +88,7 @@ hung_all : (ss : List SlaveWords) (r : Result (List Place) TopologyError) (x : �
 hung_all ss (Err e) x h j = absurd cc
 hung_all ss (Ok hung) x h j = h
 
-tree_length : (ss : List SlaveWords) → HasLength (length ss) (tree_told ss)
+pub tree_length : (ss : List SlaveWords) → HasLength (length ss) (tree_told ss)
 tree_length ss =
     let statuses = map (λ (s : SlaveWords). s.status) ss in
     subst (λ k. HasLength k (tree_of statuses)) (length-map ss (λ (s : SlaveWords). s.status)) (walk_length (None ∷ []) 0 statuses)
@@ -97,7 +97,7 @@ pub hung_length : (ss : List SlaveWords) (x : ℕ) → judgement ss ≡ Ok x →
 unfolding judgement
 hung_length ss x j = hung_all ss (tree_told ss) x (tree_length ss) j
 
-judged_below : (ss : List SlaveWords) (x : ℕ) → judgement ss ≡ Ok x → x < length ss
+pub judged_below : (ss : List SlaveWords) (x : ℕ) → judgement ss ≡ Ok x → x < length ss
 unfolding judgement
 judged_below ss x j = reference_of_tree ss (tree_told ss) x (tree_length ss) j
 

@@ -57,10 +57,11 @@ set_datagrams p wide offset delay =
     asks 0 Fpwr (station p) 0x0920 (little_bytes (width wide) offset)
     ∷ asks 1 Fpwr (station p) 0x0928 (little_bytes 4 delay) ∷ []
 
--- Drift: every other clock receives the time of the reference
+-- the datagram by which every other clock receives the time of the reference
 abbrev pub drift_datagram : ℕ → DatagramValue
 drift_datagram reference = asks 0 Frmw (station reference) 0x0910 (blank 4)
 
+-- the frame of Drift has that datagram alone
 abbrev pub drift_datagrams : ℕ → List DatagramValue
 drift_datagrams reference = drift_datagram reference ∷ []
 

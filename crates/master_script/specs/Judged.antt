@@ -24,6 +24,7 @@ miscounted step [] counters = None
 miscounted step (e ∷ es) [] = None
 miscounted step (e ∷ es) (k ∷ ks) = if k == e then miscounted step es ks else Some (Counter step e k)
 
+-- by the first byte that differs and may not, if there is one
 abbrev pub judged_by : Step → List ℕ → FrameValue → Option ℕ → Option Refusal
 judged_by step expected reply (Some at) = Some (Reply step at)
 judged_by step expected reply None = miscounted step expected (counters reply)

@@ -57,6 +57,7 @@ has_delays p = is_some p.words.reference && not (list_any is_times p.todo)
 abbrev pub start_shown : ConfigValue → Progress → Option ℕ
 start_shown cfg p = if nat_lt (settle_frames cfg) p.drifts then Some (start_at cfg p.words) else None
 
+-- what is kept where the script has come so far
 abbrev pub kept_at : ConfigValue → Option ℕ → Progress → Kept
 kept_at cfg frames p = record {
   config = cfg;

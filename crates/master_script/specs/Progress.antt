@@ -114,6 +114,7 @@ missed p step = record p { tries = p.tries + 1; refused = lost_at step (p.tries 
 abbrev pub noted : Progress → Step → List Step → FrameValue → Progress
 noted p step rest reply = record p { tries = 0; todo = rest; words = learned p.sent step reply p.words }
 
+-- the step that was asked came back, and is refused or not
 abbrev pub answered : Progress → Step → List Step → FrameValue → Option Refusal → Progress
 answered p step rest reply (Some r) = record p { refused = Some r }
 answered p step rest reply None = turned (noted p step rest reply) rest
@@ -123,6 +124,7 @@ abbrev pub asked_by : ConfigValue → Progress → Step → List Step → FrameV
 asked_by cfg p step rest sent None = missed p step
 asked_by cfg p step rest sent (Some reply) = answered p step rest reply (judged step (expected cfg p.words step reply) sent reply)
 
+-- an exchange while these steps are to be asked
 abbrev pub asked : ConfigValue → Progress → FrameValue → Option FrameValue → List Step → Progress
 asked cfg p sent back [] = p
 asked cfg p sent back (step ∷ rest) = asked_by cfg p step rest sent back
@@ -132,6 +134,7 @@ abbrev pub settled_by : Progress → Option ℕ → Progress
 settled_by p None = record p { refused = Some (Lost Settle) }
 settled_by p (Some time) = record p { phase = Arming; todo = arm_steps p.words.slaves }
 
+-- the settle phase ends behind its last frame, be it lost or not
 abbrev pub settled : ConfigValue → Progress → Progress
 settled cfg p = if p.drifts == settle_frames cfg then settled_by p p.words.time else p
 
@@ -143,6 +146,7 @@ expected_time cfg p = (cfg.epoch_ns + cfg.frame_ns * (p.sent - p.words.latched))
 abbrev pub brought : ConfigValue → Progress → FrameValue → Progress
 brought cfg p reply = record p { words = record (p.words) { time = Some (extended (low_in reply) (expected_time cfg p)) } }
 
+-- a settle frame came back, and is refused or not
 abbrev pub timed : ConfigValue → Progress → FrameValue → Option Refusal → Progress
 timed cfg p reply (Some r) = record p { refused = Some r }
 timed cfg p reply None = settled cfg (brought cfg p reply)

@@ -24,10 +24,11 @@ base = record {
   cycle_ns = 1000000;
 }
 
--- a frame that is lost, and one that comes back as it was sent
+-- a frame that is lost
 abbrev pub lost : List DatagramValue → Exchange
 lost ds = record { wait_ns = 1000000; sent = built ds; back = None }
 
+-- a frame that comes back as it was sent
 abbrev pub echo : List DatagramValue → Exchange
 echo ds = record { wait_ns = 1000000; sent = built ds; back = Some (built ds) }
 
@@ -51,10 +52,11 @@ tells p features status fourth =
     came (identify_datagrams p)
     ((little_bytes 2 (0x1001 + p), 1) ∷ (little_bytes 2 features, 1) ∷ (little_bytes 2 status, 1) ∷ (replicate 4 0, fourth) ∷ [])
 
--- Identify of a clock of 64 bits with this DL status, and of a clockless slave
+-- Identify of a clock of 64 bits with this DL status
 abbrev pub identifies : ℕ → ℕ → Exchange
 identifies p status = tells p 0x000C status 1
 
+-- Identify of a clockless slave with this DL status
 abbrev pub identifies_none : ℕ → ℕ → Exchange
 identifies_none p status = tells p 0 status 0
 
@@ -63,10 +65,11 @@ abbrev pub tells_times : ℕ → ℕ → ℕ → Exchange
 tells_times p first second =
     came (times_datagrams p true) ((little_bytes 4 first ++ little_bytes 4 second ++ replicate 8 0, 1) ∷ (replicate 8 0, 1) ∷ [])
 
--- Set and Drift, well received by two clocks
+-- Set of a clock of 64 bits
 abbrev pub sets : ℕ → ℕ → ℕ → Exchange
 sets p offset delay = came (set_datagrams p true offset delay) ((replicate 8 0, 1) ∷ (replicate 4 0, 1) ∷ [])
 
+-- Drift, which brings this low half of the time of the reference
 abbrev pub drifts : ℕ → Exchange
 drifts low = came (drift_datagrams 0) ((little_bytes 4 low, 2) ∷ [])
 
@@ -88,30 +91,32 @@ measures first second =
     counts 2 ∷ identifies 0 0x5A30 ∷ identifies 1 0x5610 ∷ came (rate_datagrams 4096) ((little_bytes 2 4096, 2) ∷ []) ∷ lost latch_datagrams
     ∷ came latch_datagrams ((replicate 4 0, 2) ∷ []) ∷ tells_times 0 first second ∷ tells_times 1 0 0 ∷ []
 
--- 'four kinds' of the rows: the second slave is clockless, and two clocks hang at it
+-- the same for four slaves
 abbrev pub four_kinds : ConfigValue
 four_kinds =
     let kind : Kind = record { tp_ns = 310; tf_ns = 300 } in
     let plan : SyncPlan = record { shift_ns = 0; sync1_ns = None } in
     record base { kinds = kind ∷ kind ∷ kind ∷ kind ∷ []; plans = plan ∷ plan ∷ plan ∷ plan ∷ [] }
 
+-- commissioning up to the last Identify: two clocks hang at the second slave, which is clockless
 abbrev pub branches : List Exchange
 branches = counts 4 ∷ identifies 0 0x5A30 ∷ identifies_none 1 0x6A70 ∷ identifies 2 0x5610 ∷ identifies 3 0x5610 ∷ []
 
--- commissioning of 'two slaves in a line'
+-- commissioning of the two slaves
 abbrev pub commissions : List Exchange
 commissions =
     counts 2 ∷ identifies 0 0x5A30 ∷ identifies 1 0x5610 ∷ came (rate_datagrams 4096) ((little_bytes 2 4096, 2) ∷ []) ∷ came latch_datagrams ((replicate 4 0, 2) ∷ [])
     ∷ tells_times 0 5000020 5000740 ∷ tells_times 1 0 0 ∷ sets 0 799999999994999980 0 ∷ sets 1 799999999995000000 360 ∷ []
 
--- commissioning and settling of 'a run with edge rows'
+-- their commissioning and settling, with two settle frames
 abbrev pub settles : List Exchange
 settles = commissions ++ drifts 0 ∷ drifts ((800000000000000000 + 6000000) % 2 ^ 32) ∷ []
 
--- 'drift losses in a row': of four settle frames the last three are lost
+-- the same where three drift frames in a row may be lost: of four settle frames the last three are
 abbrev pub losing : ConfigValue
 losing = record base { loss_run = 3 }
 
+-- its commissioning and settling
 abbrev pub settles_losing : List Exchange
 settles_losing =
     commissions ++ drifts ((800000000000000000 + 5000000) % 2 ^ 32) ∷ lost (drift_datagrams 0) ∷ lost (drift_datagrams 0) ∷ lost (drift_datagrams 0) ∷ []

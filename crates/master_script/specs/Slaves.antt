@@ -46,6 +46,7 @@ judged_clocks None unmeasurable = Err NoReference
 judged_clocks (Some reference) (Some position) = Err (Unmeasurable position)
 judged_clocks (Some reference) None = Ok reference
 
+-- by the tree of the statuses, if they list one
 abbrev pub judged_tree : List SlaveWords → Result (List Place) TopologyError → Result ℕ Refusal
 judged_tree ss (Err e) = Err (Topology e)
 judged_tree ss (Ok hung) = judged_clocks (first_timed hung (flag (map is_clock ss))) (first_unmeasurable hung (flag (map is_measuring ss)))

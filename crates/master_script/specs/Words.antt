@@ -30,6 +30,7 @@ wide_at w p = is_wide (slice_index_or w.slaves p (record { features = 0; status 
 abbrev pub reference_of : Words → ℕ
 reference_of w = unwrap_or w.reference 0
 
+-- the tree, once the slaves are judged
 abbrev pub hung_or_none : Result (List Place) TopologyError → List Place
 hung_or_none (Ok hung) = hung
 hung_or_none (Err e) = []
@@ -48,6 +49,7 @@ delays_of cfg w =
 abbrev pub delay_at : ConfigValue → Words → ℕ → ℕ
 delay_at cfg w p = unwrap_or (slice_index_or (delays_of cfg w) p None) 0
 
+-- the receive time at the processing unit
 abbrev pub unit_of : Option Latch → ℕ
 unit_of None = 0
 unit_of (Some latch) = latch.unit

@@ -2,7 +2,9 @@
 //! matter of claims that depend on values, which no law can take: there the lemmas of `proofs/Asks.antt`,
 //! `proofs/Drifts.antt` and `proofs/Ends.antt` are what a layer above cites.
 
-ghost use Rattle.std.specs.Prelude.{◌≡◌, ◌≢◌, ◌↔◌, ℕ, ◌+◌, ◌*◌, ◌<◌, ◌≤◌, List, [], ◌++◌, length, Option, Some, None, Ok, Err, IsSome, slice_get};
+ghost use Rattle.std.specs.Prelude.{◌≡◌, ◌≢◌, ◌↔◌, ℕ, ◌+◌, ◌*◌, ◌<◌, ◌≤◌, List, [], ◌∷◌, ◌++◌, length, map, Option, Some, None, Ok, Err, IsSome, slice_get};
+ghost use Rattle.dc_bounds.specs.Weight.{flag};
+ghost use Rattle.dc_delay.specs.Refusals.{first_unmeasurable};
 ghost use Rattle.dc_topology.specs.Listed.{Lists, Place};
 ghost use Rattle.dc_topology.specs.Refusals.{IsRefused};
 ghost use Rattle.dc_topology.specs.declared.error.TopologyError.{TopologyError};
@@ -21,11 +23,12 @@ ghost use Rattle.master_script.specs.ListedTree.{tree_of};
 ghost use Rattle.master_script.specs.Progress.{Arming, Running, Settling, arm_steps, progress};
 ghost use Rattle.master_script.specs.Script.{Call, Commission, script};
 ghost use Rattle.master_script.specs.Scripted.{AreScripted, IsLimited};
+ghost use Rattle.master_script.specs.Slaves.{SlaveWords, clocks, is_measuring, judgement, tree_told};
 ghost use Rattle.master_script.specs.Stages.{HasDrifts};
 ghost use Rattle.master_script.specs.StaysKept.{StaysKept};
 ghost use Rattle.master_script.specs.Steps.{datagrams_of, frame_of};
 ghost use Rattle.master_script.specs.Words.{Words, reference_of};
-ghost use Rattle.master_script.specs.declared.step.Refusal.TheVariants.{Counter, Reply};
+ghost use Rattle.master_script.specs.declared.step.Refusal.TheVariants.{Counter, NoReference, Reply, Topology, Unmeasurable};
 ghost use Rattle.master_script.specs.declared.step.Stage.TheVariants.{Armed, Commissioned, Fresh, Settled, Spent};
 ghost use Rattle.master_script.specs.declared.step.Step.{Step};
 
@@ -139,4 +142,19 @@ pub fn replies_are_judged()
 pub fn trees_are_listed()
     ensures ok { (statuses : List ℕ) (hung : List Place) → tree_of statuses ≡ Ok hung → Lists statuses hung }
     ensures refused { (statuses : List ℕ) (e : TopologyError) → tree_of statuses ≡ Err e → IsRefused statuses e }
+{}
+
+/// After the last Identify it is judged in this order whether the statuses list a tree, whether there is a
+/// clock, and whether each measuring slave can be measured. Where nothing is refused, the reference is the
+/// first clock.
+pub fn slaves_are_judged()
+    ensures topology { (ss : List SlaveWords) (e : TopologyError) → (judgement ss ≡ Err (Topology e)) ↔ (tree_told ss ≡ Err e) }
+    ensures no_reference { (ss : List SlaveWords) (hung : List Place) → tree_told ss ≡ Ok hung
+        → (judgement ss ≡ Err NoReference) ↔ (clocks ss ≡ []) }
+    ensures unmeasurable { (ss : List SlaveWords) (hung : List Place) (k : ℕ) → tree_told ss ≡ Ok hung
+        → judgement ss ≡ Err (Unmeasurable k) → first_unmeasurable hung (flag (map is_measuring ss)) ≡ Some k }
+    ensures reference { (ss : List SlaveWords) (r : ℕ) → judgement ss ≡ Ok r
+        → (hung : List Place) × (rest : List ℕ) × (tree_told ss ≡ Ok hung) × (clocks ss ≡ r ∷ rest)
+        × (first_unmeasurable hung (flag (map is_measuring ss)) ≡ None) }
+    ensures within { (ss : List SlaveWords) (r : ℕ) → judgement ss ≡ Ok r → r < length ss }
 {}
