@@ -37,7 +37,7 @@ enough : (kinds few limit frames before : ℕ) → 0 < kinds → kinds ≤ 256 �
     → 9 + 12 * kinds + (few + limit + 1) + frames < before + t
 enough kinds few limit frames before some most lock loss run t e = omega (arith, most, lock, loss, run, e)
 
-turns_are : turns ≡ 300000
+pub turns_are : turns ≡ 300000
 unfolding turns
 turns_are = refl
 

@@ -1,2 +1,3 @@
 pub mod MasterOfFile
 pub mod RunOfFile
+pub mod AtEnd

@@ -1,12 +1,18 @@
 //! Laws over the definitions alone, for proofs of the layers above. They speak of any legal segment.
 
-ghost use Rattle.std.specs.Prelude.{◌≡◌, ℕ, ◌<◌, ◌≤◌, Some, IsSome, length};
+ghost use Rattle.std.specs.Prelude.{◌≡◌, ℕ, ◌<◌, ◌≤◌, [], Some, None, IsSome, Ok, length};
 ghost use Rattle.master_script.specs.Scripted.{AreScripted};
+ghost use Rattle.ecat_link.specs.Serves.{Serves};
+ghost use Rattle.master_script.specs.Kept.{Kept, StandsFor, Ends};
+ghost use Rattle.master_script.specs.Script.{Answer, Commission, Settle, Arm, Run, script};
 ghost use Rattle.frame_pass.specs.Invariants.{IsSoundSegment};
+ghost use Rattle.frame_pass.specs.SegmentState.{SegmentState, segment_step};
+ghost use Rattle.segment_start.specs.Start.{started_segment};
 ghost use Rattle.segment_file.specs.Segment.{SegmentValue};
 ghost use Rattle.segment_file.specs.Legal.{IsLegal};
 ghost use Rattle.run_of_file.specs.MasterOfFile.{master_of};
-ghost use Rattle.run_of_file.specs.RunOfFile.{RunEnd, commissioned, settled, armed, ran, run_of, frames_given};
+ghost use Rattle.run_of_file.specs.RunOfFile.{RunEnd, commissioned, settled, armed, ran, run_of, frames_given, master_after};
+ghost use Rattle.run_of_file.specs.AtEnd.{IsAtEnd};
 
 /// The master of a legal segment is told of each slave once, and its numbers lie in their ranges.
 pub fn masters_are_in_range()
@@ -33,4 +39,24 @@ pub fn runs_follow_the_script()
     ensures settled { (s : SegmentValue) (run : RunEnd) → IsLegal s → settled s ≡ Some run → AreScripted (master_of s) (frames_given s) run.exchanges × IsSoundSegment run.state }
     ensures armed { (s : SegmentValue) (run : RunEnd) → IsLegal s → armed s ≡ Some run → AreScripted (master_of s) (frames_given s) run.exchanges × IsSoundSegment run.state }
     ensures ran { (s : SegmentValue) (run : RunEnd) → IsLegal s → ran s ≡ Some run → AreScripted (master_of s) (frames_given s) run.exchanges × IsSoundSegment run.state }
+{}
+
+/// A master that calls over a segment's step makes the run of the file: what each call leaves is the end of the run up to
+/// that phase. `Serves` and `Ends` are what a master's contract says of a call.
+pub fn calls_make_the_run()
+    ensures commission { (s : SegmentValue) → IsLegal s → (m : Kept) → m ≡ master_after s None [] → (later : SegmentState) (n : Kept) → n.config ≡ m.config
+        → (answer : Answer) → Serves segment_step (script m.config Commission) (StandsFor None m) (Some (started_segment s)) (Some later) (Ends m.config Commission n answer)
+        → IsAtEnd s None (commissioned s) later n answer }
+    ensures settle { (s : SegmentValue) → IsLegal s → (state : SegmentState) (m : Kept) → IsAtEnd s None (commissioned s) state m (Ok tt)
+        → (later : SegmentState) (n : Kept) → n.config ≡ m.config → (answer : Answer)
+        → Serves segment_step (script m.config Settle) (StandsFor None m) (Some state) (Some later) (Ends m.config Settle n answer)
+        → IsAtEnd s None (settled s) later n answer }
+    ensures arm { (s : SegmentValue) → IsLegal s → (state : SegmentState) (m : Kept) → IsAtEnd s None (settled s) state m (Ok tt)
+        → (later : SegmentState) (n : Kept) → n.config ≡ m.config → (answer : Answer)
+        → Serves segment_step (script m.config Arm) (StandsFor None m) (Some state) (Some later) (Ends m.config Arm n answer)
+        → IsAtEnd s None (armed s) later n answer }
+    ensures run { (s : SegmentValue) → IsLegal s → (state : SegmentState) (m : Kept) → IsAtEnd s None (armed s) state m (Ok tt)
+        → (later : SegmentState) (n : Kept) → n.config ≡ m.config → (answer : Answer)
+        → Serves segment_step (script m.config (Run (frames_given s))) (StandsFor None m) (Some state) (Some later) (Ends m.config (Run (frames_given s)) n answer)
+        → IsAtEnd s (Some (frames_given s)) (ran s) later n answer }
 {}
