@@ -50,7 +50,13 @@ fn act(alloc: Global, wire: &mut Wire, what: &str, rest: &str) -> anyhow::Result
         "read" => {
             let (position, rest) = rest.split_once(' ').context("read POSITION ADO SIZE")?;
             let (ado, size) = rest.split_once(' ').context("read POSITION ADO SIZE")?;
-            read(alloc, wire, position.parse()?, u16::from_str_radix(ado, 16)?, size.parse()?)
+            read(
+                alloc,
+                wire,
+                position.parse()?,
+                u16::from_str_radix(ado, 16)?,
+                size.parse()?,
+            )
         }
         "edges" => edges(alloc, wire, rest.parse()?),
         _ => Ok(format!(in alloc; "sent {} lost {}", wire.sent(), wire.lost())?),

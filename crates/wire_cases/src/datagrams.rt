@@ -59,7 +59,10 @@ pub(crate) fn told(alloc: Global, frame: &Frame) -> anyhow::Result<String> {
         let datagram = frame.datagram(k);
         let comma = if k == 0 { "" } else { "," };
         let data = hex::encode(alloc, datagram.payload)?;
-        told.push_str(&format!(in alloc; "{comma}{:04x}:{data}:{}", datagram.head.adp, datagram.wkc)?)?;
+        told.push_str(&format!(in alloc;
+            "{comma}{:04x}:{data}:{}",
+            datagram.head.adp, datagram.wkc
+        )?)?;
     }
     Ok(told)
 }

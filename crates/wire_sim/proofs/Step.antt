@@ -1,12 +1,14 @@
 -- The cases of one sending.
-use Rattle.std.proofs.Common.{◌≡◌, ℕ, ◌<◌, ◌≤◌, true, false, List, [], ◌∷◌, length, Option, Some, None, refl, sym, ap, ◌∙◌, arith}
-use Rattle.std.specs.Prelude.{nat_lt}
+use Rattle.std.proofs.Common.{◌≡◌, ◌↔◌, ℕ, ◌+◌, ◌<◌, ◌≤◌, true, false, List, [], ◌∷◌, length, Option, Some, None, refl, sym, ap, ap₂, subst, ◌∙◌, arith, inl, inr}
+use Rattle.std.specs.Prelude.{nat_lt, Result, IsErr, IsSome}
 use Rattle.std.proofs.lemmas.Bool.Decides.{nat_tests}
 use Rattle.dc_base.specs.Causes.{raised}
 use Rattle.ecat_frame.specs.FrameGrammar.{DatagramValue, FrameValue, all_spelled}
 use Rattle.ecat_link.specs.Exchanges.{Follows}
 use Rattle.segment_shape.specs.Losses.{loss_at}
 use Rattle.segment_shape.specs.declared.loss_row.Phase.{Phase}
+use Rattle.segment_shape.specs.declared.loss_row.Phase.TheVariants.{Commission, Drift}
+use Rattle.wire_sim.specs.Loses.{LosesNext}
 use Rattle.frame_pass.specs.SegmentState.{SegmentState, phase_of, number_of, numbered, leaving, leaves_at, carried, carried_of, segment_step}
 
 -- a frame has a datagram
@@ -50,3 +52,34 @@ told_sent s t u wait_ns f phase after back h p l a new came =
     ≡ carried_of (phase_of f.datagrams) (numbered (phase_of f.datagrams) (leaving (leaves_at s wait_ns) s)) f =
     ap (λ x. carried_of x (numbered x (leaving (leaves_at s wait_ns) s)) f) p in
     follows s u wait_ns f back (carried after t f) (step_sent s wait_ns f h ∙ sym (one ∙ two ∙ three)) new came
+
+-- what leaving changes
+losses_stay : (phase : Phase) (s : SegmentState) (at : ℕ) → (numbered phase (leaving at s)).losses ≡ s.losses
+losses_stay Commission s at = refl
+losses_stay Drift s at = refl
+
+one_more : (phase : Phase) (s : SegmentState) (at : ℕ) → number_of phase (numbered phase (leaving at s)) ≡ number_of phase s + 1
+one_more Commission s at = refl
+one_more Drift s at = refl
+
+-- the loss of a frame that leaves is that of the next number
+next_loss : (s t : SegmentState) (wait_ns : ℕ) (f : FrameValue) (phase : Phase) (after : Option ℕ) → phase ≡ phase_of f.datagrams
+    → t ≡ numbered phase (leaving (leaves_at s wait_ns) s) → after ≡ loss_at t.losses phase (number_of phase t)
+    → after ≡ loss_at s.losses (phase_of f.datagrams) (number_of (phase_of f.datagrams) s + 1)
+next_loss s t wait_ns f phase after p l a =
+    a ∙ ap (λ u. loss_at u.losses phase (number_of phase u)) l
+    ∙ ap₂ (λ ls n. loss_at ls phase n) (losses_stay phase s (leaves_at s wait_ns)) (one_more phase s (leaves_at s wait_ns))
+    ∙ ap (λ x. loss_at s.losses x (number_of x s + 1)) p
+
+pub loses_by : {A B : Type 0} (s : SegmentState) (f : FrameValue) (result : Result A B) (after : Option ℕ) → s.sent < 1000000
+    → after ≡ loss_at s.losses (phase_of f.datagrams) (number_of (phase_of f.datagrams) s + 1) → (IsErr result ↔ IsSome after) → IsErr result ↔ LosesNext s f
+loses_by s f result after h e iff = (λ err. inr (subst (λ o. IsSome o) e (iff.0 err)), back)
+  where
+    back : LosesNext s f → IsErr result
+    back (inl late) = absurd (omega (arith, late, h))
+    back (inr some) = iff.1 (subst (λ o. IsSome o) (sym e) some)
+
+pub loses : {A B : Type 0} (s t : SegmentState) (wait_ns : ℕ) (f : FrameValue) (phase : Phase) (after : Option ℕ) (result : Result A B) → s.sent < 1000000
+    → phase ≡ phase_of f.datagrams → t ≡ numbered phase (leaving (leaves_at s wait_ns) s) → after ≡ loss_at t.losses phase (number_of phase t)
+    → (IsErr result ↔ IsSome after) → IsErr result ↔ LosesNext s f
+loses s t wait_ns f phase after result h p l a iff = loses_by s f result after h (next_loss s t wait_ns f phase after p l a) iff

@@ -1,5 +1,5 @@
 -- What a wire keeps, as it is told.
-use Rattle.std.specs.Prelude.{◌≡◌, ℕ, ⊤, true, List, [], length, Option, Some, None, IfSome}
+use Rattle.std.specs.Prelude.{◌≡◌, ℕ, ⊤, List, [], length, Option, Some, None}
 use Rattle.std.specs.Option.{option_map_or}
 use Rattle.cable_tree.specs.declared.port.Port.{Port}
 use Rattle.cable_tree.specs.declared.port.Port.TheVariants.{P1, P2, P3}

@@ -1,11 +1,13 @@
-ghost use Rattle.std.specs.Prelude.{◌≡◌, ◌+◌, ◌^◌, ◌<◌, ◌≤◌, ◌↔◌, true, None, Some, length, slice_get, IfOk, IfSome};
+ghost use Rattle.std.specs.Prelude.{◌≡◌, ◌+◌, ◌^◌, ◌<◌, ◌≤◌, ◌↔◌, true, None, Some, length, slice_get, IfOk, IfSome, IsErr, IsSome, OnErr};
+ghost use Rattle.dc_base.specs.Causes.{HasCause};
 ghost use Rattle.ecat_frame.specs.FrameGrammar.{IsFrame};
-ghost use Rattle.ecat_link.specs.Exchanges.{back_of};
+ghost use Rattle.ecat_link.specs.Exchanges.{Follows, back_of};
 ghost use Rattle.esc_regs.specs.RegisterAccess.{is_refused};
 ghost use Rattle.segment_shape.specs.Losses.{loss_at};
 ghost use Rattle.frame_pass.specs.LiveRegisters.{read_of};
 ghost use Rattle.frame_pass.specs.SegmentState.{phase_of, number_of, numbered, leaving, leaves_at, carried, segment_step, finished, expected_at};
 ghost use Rattle.segment_start.specs.Start.{started_segment};
+ghost use Rattle.wire_sim.specs.Loses.{LosesNext};
 ghost use Rattle.wire_sim.specs.Seen.{edges_kept};
 
 use crate::build::{losses, slaves};
@@ -124,6 +126,7 @@ impl Wire {
         requires { self.old.last + 10000000000000 < 2 ^ 64 }
         ensures state { self.new ≡ (carried after self.old frame.old).0 }
         ensures back { back_of result frame.new ≡ (carried after self.old frame.old).1 }
+        ensures lost { IsErr result ↔ IsSome after }
         ensures valid { IsFrame frame.new }
     {
         carry_all(&mut self.slaves, after, frame, self.last);
@@ -190,7 +193,14 @@ impl Link for Wire {
 
     ghost step = { segment_step };
 
-    fn exchange(&mut self, wait_ns: u64, frame: &mut Frame) -> Result<(), Lost> {
+    /// Sends the frame a wait after the last one, of which at most 10 ms count, and not before that one came back.
+    fn exchange(&mut self, wait_ns: u64, frame: &mut Frame) -> Result<(), Lost>
+        ensures cause { HasCause self.old.lost self.new.lost result }
+        ensures told { Follows segment_step (Some self.old) (Some self.new)
+            (record { wait_ns = wait_ns; sent = frame.old; back = back_of result frame.new }) }
+        ensures lost { IsErr result ↔ LosesNext self.old frame.old }
+        ensures valid { OnErr result (IsFrame frame.new) }
+    {
         let phase = phase_of(frame);
         if self.sent >= MOST_SENDINGS {
             self.lost = self.lost.saturating_add(1);
