@@ -386,7 +386,7 @@ fold_moves n cfg p (e ∷ es) k =
     let a = after_moves n cfg p e k in
     moves_then n p (after cfg p e) (fold (after cfg) (after cfg p e) es) a (fold_moves n cfg (after cfg p e) es a.known)
 
-beginning_known : (cfg : ConfigValue) → Known (length cfg.kinds) (beginning cfg)
+pub beginning_known : (cfg : ConfigValue) → Known (length cfg.kinds) (beginning cfg)
 beginning_known cfg =
     let a = all_identify (positions (length cfg.kinds)) in
     let b = length-range_with_len 0 (length cfg.kinds) in

@@ -16,3 +16,5 @@ pub mod Staying
 pub mod Stages
 pub mod Worked
 pub mod Judging
+pub mod Sendings
+pub mod Calls

@@ -13,3 +13,4 @@ pub mod Scripted
 pub mod StaysKept
 pub mod Stages
 pub mod Rows
+pub mod Begins

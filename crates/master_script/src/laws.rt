@@ -14,16 +14,17 @@ ghost use Rattle.ecat_frame.specs.FrameGrammar.{DatagramValue, FrameValue, IsFra
 ghost use Rattle.ecat_frame.specs.declared.command.Command.TheVariants.{Frmw};
 ghost use Rattle.ecat_link.specs.Drive.{drive};
 ghost use Rattle.ecat_link.specs.Exchanges.{Exchange, StepOf, lost_among};
-ghost use Rattle.ecat_link.specs.Serves.{Send, Sends};
+ghost use Rattle.ecat_link.specs.Serves.{End, Send, Sends};
+ghost use Rattle.master_script.specs.Begins.{Begins};
 ghost use Rattle.master_script.specs.Config.{ConfigValue, settle_frames, slaves};
 ghost use Rattle.master_script.specs.Frames.{drift_datagram};
 ghost use Rattle.master_script.specs.Judged.{IsFirstMiscount, counters, judged};
 ghost use Rattle.master_script.specs.Kept.{Kept, StandsFor, kept_after, resting};
 ghost use Rattle.master_script.specs.ListedTree.{tree_of};
-ghost use Rattle.master_script.specs.Progress.{Arming, Running, Settling, arm_steps, progress};
-ghost use Rattle.master_script.specs.Script.{Call, Commission, script};
+ghost use Rattle.master_script.specs.Progress.{Arming, Commissioning, Running, Settling, arm_steps, progress};
+ghost use Rattle.master_script.specs.Script.{Arm, Call, Commission, Run, Settle, script};
 ghost use Rattle.master_script.specs.Scripted.{AreScripted, IsLimited};
-ghost use Rattle.master_script.specs.Slaves.{SlaveWords, clocks, is_measuring, judgement, tree_told};
+ghost use Rattle.master_script.specs.Slaves.{SlaveWords, clocks, is_measuring, judgement, measuring, tree_told};
 ghost use Rattle.master_script.specs.Stages.{HasDrifts};
 ghost use Rattle.master_script.specs.StaysKept.{StaysKept};
 ghost use Rattle.master_script.specs.Steps.{datagrams_of, frame_of};
@@ -97,6 +98,25 @@ pub fn calls_end<S>()
         → 0 < slaves cfg → IsLimited frames call → AreScripted cfg frames before
         → 9 + 12 * slaves cfg + settle_frames cfg + frames < length before + turns
         → IsSome (drive step (script cfg call) turns before s) }
+{}
+
+/// A call that ends with Ok has sent so many frames, and there the next phase begins. A lost frame of settle and
+/// run counts as sent, and of commission and arm each is sent again.
+pub fn calls_that_end_with_ok()
+    ensures fresh { (cfg : ConfigValue) → Begins cfg Commissioning (progress cfg []) }
+    ensures commission { (cfg : ConfigValue) (es : List Exchange) → Sends (script cfg Commission) [] es → script cfg Commission es ≡ End (Ok tt)
+        → Begins cfg Settling (progress cfg es)
+        × (length es ≡ slaves cfg + length (measuring (progress cfg es).words.slaves) + length (clocks (progress cfg es).words.slaves) + 3
+        + lost_among es) }
+    ensures settle { (cfg : ConfigValue) (before es : List Exchange) → Begins cfg Settling (progress cfg before)
+        → Sends (script cfg Settle) before es → script cfg Settle (before ++ es) ≡ End (Ok tt)
+        → Begins cfg Arming (progress cfg (before ++ es)) × (length es ≡ settle_frames cfg) }
+    ensures arm { (cfg : ConfigValue) (before es : List Exchange) → Begins cfg Arming (progress cfg before)
+        → Sends (script cfg Arm) before es → script cfg Arm (before ++ es) ≡ End (Ok tt)
+        → Begins cfg Running (progress cfg (before ++ es))
+        × (length es ≡ length (clocks (progress cfg before).words.slaves) + lost_among es) }
+    ensures run { (cfg : ConfigValue) (frames : ℕ) (before es : List Exchange) → Begins cfg Running (progress cfg before)
+        → Sends (script cfg (Run frames)) before es → script cfg (Run frames) (before ++ es) ≡ End (Ok tt) → length es ≡ frames }
 {}
 
 /// The frame of each step has a datagram or more, and without padding at most 98 bytes, so a builder has
