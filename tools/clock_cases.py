@@ -1,8 +1,8 @@
-"""The cases of oscillators, clocks and SYNC units for tools/frame_cases.py, and their right answers.
+"""The cases of oscillators, clocks, SYNC units and latch units for tools/frame_cases.py, and their right answers.
 
 A case by hand has its answer beside it. All others, and those by hand that are not far ahead, are worked out
-here from docs/DEFINITIONS.md, tick by tick: "Ticks", "The local clock", "SYNC units". What a line asks is said
-in crates/frame_cases/src.
+here from docs/DEFINITIONS.md, tick by tick: "Ticks", "The local clock", "SYNC units", "Latch units". What a line
+asks is said in crates/frame_cases/src.
 """
 import random
 
@@ -43,6 +43,7 @@ class Clock:
         self.next = next(self.instants)
         self.taken = 0
         self.due, self.edges = None, []
+        self.last, self.event = -1, None
 
     def cut(self, n):
         return n % 2**self.bits
@@ -58,6 +59,7 @@ class Clock:
                 sign = 1 if self.left > 0 else -1
                 step, self.left, self.count = 10 - sign, self.left - sign, 0
         self.reading = self.cut(self.reading + step)
+        self.before, self.last = self.last, self.next
         self.now = self.next
         self.taken += 1
         self.next = next(self.instants)
@@ -69,6 +71,17 @@ class Clock:
             if offset is not None and self.due:
                 self.raise_edges(self.cut(self.reading + offset))
         self.now = t
+
+    def sample(self, t, offset):
+        """The stamp of the event that is expected, where one of the ticks until t is the first at or after it."""
+        assert t >= self.now
+        stamp = "none"
+        while self.next <= t:
+            self.tick()
+            if self.event is not None and self.before < self.event <= self.last:
+                stamp, self.event = str(self.cut(self.reading + offset)), None
+        self.now = t
+        return stamp
 
     def raise_edges(self, copy):
         for signal in sorted(self.due):
@@ -123,6 +136,10 @@ class Clock:
             self.advance(int(rest[0]), self.cut(int(rest[1])))
         elif what == "clear":
             self.edges = []
+        elif what == "expect":
+            self.event = int(rest[0])
+        elif what == "sample":
+            return self.sample(int(rest[0]), int(rest[1]))
         elif what == "list":
             return self.kept()
         return "-"
@@ -137,7 +154,7 @@ def answer(line):
     what, *words = line.split()
     if what == "#":
         return line
-    bits, words = (int(words[0]), words[1:]) if what == "clock" else (0, words)
+    bits, words = (int(words[0]), words[1:]) if what in ("clock", "latch") else (0, words)
     osc = oscillator(*words[:3])
     if not osc.runs():
         return "no oscillator"
@@ -146,7 +163,10 @@ def answer(line):
     if what == "clock":
         clock = Clock(bits, osc, *map(int, rest[:3]))
         told += [clock.act(*action.split(":")) for action in rest[3:]]
-    for asked in rest if what != "clock" else []:
+    if what == "latch":
+        clock = Clock(bits, osc, *map(int, rest[:2]), 0)
+        told += [clock.act(*action.split(":")) for action in rest[2:]]
+    for asked in rest if what in ("ticks", "instants") else []:
         told.append(str(count(osc, int(asked)) if what == "ticks" else instant(osc, int(asked))))
     return " ".join(told)
 
@@ -282,6 +302,25 @@ def units():
         case(f"clock {bits} 1 1 - 0 2 20 arm:1010:1000:20 edges:2000:0 list")
 
 
+def latches():
+    title("stamps by hand: an event at 21 is taken at tick 30, one at 20 at tick 20")
+    plain = "latch 64 10 10 - 0 64"
+    hand(f"{plain} sample:25:0 expect:21 sample:29:5 sample:30:5 sample:40:5", "latch none - none 35 none")
+    hand(f"{plain} expect:20 sample:19:0 sample:40:0 sample:50:0", "latch - none 20 none")
+    hand(f"{plain} expect:20 sample:20:0 expect:25 sample:28:0 sample:40:0", "latch - 20 - none 30")
+    title("the first tick is at the phase, whatever comes before it")
+    hand(f"{plain} expect:0 sample:9:0 sample:10:0", "latch - none 10")
+    hand("latch 32 7 10 - 0 64 expect:1 sample:100:0", "latch - 10")
+    title("an event of the past is not taken; another one takes its place")
+    hand(f"{plain} sample:25:0 expect:15 sample:100:0 sample:1000:0", "latch none - none none")
+    hand(f"{plain} sample:25:0 expect:15 expect:25 sample:100:0 sample:1000:0", "latch none - - 30 none")
+    title("a clock that works off 5 ns, one at each tick; another period from tick 2 on; words that wrap")
+    hand("latch 64 10 10 - 0 1 receive:5 expect:25 sample:40:0", "latch - - 27")
+    hand("latch 64 10 10 2:100 0 64 expect:21 sample:119:0 sample:120:0", "latch - none 30")
+    hand("latch 32 10 10 - 4294967290 64 expect:3 sample:10:4294967295", "latch - 3")
+    hand(f"latch 64 10 10 - {LAST} 64 expect:10 sample:15:{LAST}", "latch - 8")
+
+
 def any_oscillator(pick):
     period = pick.choice([TICK, TICK + 1000, TICK - 1000, 1, 7, 1_000])
     rates, tick = [], 0
@@ -342,6 +381,21 @@ def any_units(pick):
         case(f"clock {bits} {osc} {start} {g} {keep} {' '.join(actions)} list")
 
 
+def any_latches(pick):
+    title("latch inputs at random, with events next to ticks")
+    for _ in range(60):
+        bits, osc = pick.choice([32, 64]), any_oscillator(pick)
+        run, tick, now, actions = oscillator(*osc.split()), 0, 0, []
+        start, offset = any_start(pick, bits), pick.choice([0, pick.randrange(2**bits)])
+        for _ in range(pick.randint(2, 5)):
+            event = instant(run, tick + pick.randint(1, 40)) + pick.choice([-1, 0, 0, 1])
+            actions += pick.choice([[f"expect:{event}"], [f"expect:{event}", f"receive:{pick.randint(-60, 60)}"], []])
+            tick += pick.randint(1, 50)
+            now = max(now, instant(run, tick) + pick.choice([-1, 0, 0, 1]))
+            actions.append(f"sample:{now}:{offset}")
+        case(f"latch {bits} {osc} {start} {pick.choice([1, 2, 4, 64])} {' '.join(actions)}")
+
+
 def half_of_the_range():
     title("the first tick at which a value half of the range ahead is reached; one farther ahead lies behind")
     for osc, tick in [(f"{TICK} {TICK} -", TICK), ("1 1 -", 1)]:
@@ -391,4 +445,6 @@ def table():
     any_clocks(pick)
     any_units(pick)
     half_of_the_range()
+    latches()
+    any_latches(pick)
     return TABLE

@@ -278,6 +278,8 @@ def unread():
         "clock 32 10 10 - 0 1 100001", "clock 32 10 10 - 0 1 0 stop", "clock 32 10 10 - 0 1 0 advance:20 advance:19",
         "clock 32 10 10 - 0 1 0 advance:20 edges:19:0", "clock 32 10 10 - 0 1 0 arm:0:999:-", "clock 32 10 10 - 0 1 0 arm:0:1000:0",
         "clock 32 10 10 - 0 1 0 arm:0:1000:1000", "clock 32 10 10 - 0 1 0 reset:0", "clock 32 10 10 - 0 1 0 receive:2147483648",
+        "latch 16 10 10 - 0 1", "latch 32 10 10 - 0 0", "latch 32 10 10 - 0 1 take", "latch 32 10 10 - 0 1 expect",
+        "latch 32 10 10 - 0 1 sample:20:0 sample:19:0",
     ]
 
 

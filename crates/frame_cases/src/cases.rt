@@ -1,6 +1,7 @@
 use crate::actions::actions;
 use crate::build::built;
 use crate::clock_words::{ahead, extended, moved, moved_back};
+use crate::latches::latch;
 use crate::links::exchanges;
 use crate::names::places_told;
 use crate::oscillators::{instants, ticks};
@@ -35,6 +36,7 @@ fn tell(alloc: Global, words: &mut Words<'_>, told: &mut String) -> Result<(), A
         "ticks" => ticks(alloc, words, told),
         "instants" => instants(alloc, words, told),
         "clock" => clock(alloc, words, told),
+        "latch" => latch(alloc, words, told),
         "moved" => moved(words, told),
         "moved_back" => moved_back(words, told),
         "ahead" => ahead(words, told),

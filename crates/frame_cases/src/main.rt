@@ -1,4 +1,4 @@
-//! Frames, links, registers, clock words and clocks over a table of cases, one a line.
+//! Frames, links, registers, clock words, clocks and latch inputs over a table of cases, one a line.
 //!
 //! A case is a word that says what is asked, and then words, which end at a space, a colon or a comma. Bytes are
 //! hexadecimal digits, or the same ones a number of times, as `07*1486`, or `-` where there are none.
@@ -28,6 +28,8 @@
 //! - `clock WIDTH PHASE PERIOD RATES START G KEEP ACTION ..`: a clock of 32 or 64 bits that starts so, with a
 //!   SYNC unit that is not armed and a list that keeps so many edges, and then what is done with them, with
 //!   a word for each action (`station.rt`).
+//! - `latch WIDTH PHASE PERIOD RATES START G ACTION ..`: a clock that starts so, with a latch unit that expects
+//!   nothing, and then what is done with them, with a word for each action (`latches.rt`).
 //! - A line that begins with `#`: the line itself.
 //! - Any other line: `unread`.
 #![tactic(auto)]
@@ -36,6 +38,7 @@ mod actions;
 mod build;
 mod cases;
 mod clock_words;
+mod latches;
 mod links;
 mod names;
 mod oscillators;
