@@ -1,0 +1,13 @@
+pub mod Slaves
+pub mod FirstLine
+pub mod SlaveLine
+pub mod LockInLine
+pub mod StartLine
+pub mod FramesLine
+pub mod EdgesLine
+pub mod Delays
+pub mod Edges
+pub mod Shifts
+pub mod EdgeRows
+pub mod InsideRows
+pub mod Reports
