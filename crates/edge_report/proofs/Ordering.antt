@@ -197,10 +197,10 @@ sorted_in_order edges rows cycles slaves up stable few low =
     ∙ flat_map_alike (λ k. filter (λ x. nat_eq (index x) k) rows) (λ k. flat_map (edges_at edges k) (range_with_len 0 slaves)) 0 cycles (λ k least most. positions_in edges rows slaves up stable few k)
 
 -- the indices of edges are below the number of cycles
-abbrev of_signal : SlaveEdge → SlaveEdge → Bool
+abbrev pub of_signal : SlaveEdge → SlaveEdge → Bool
 of_signal e x = is_of e.position e.edge.signal x
 
-of_itself : (e : SlaveEdge) → of_signal e e ≡ true
+pub of_itself : (e : SlaveEdge) → of_signal e e ≡ true
 of_itself e = rw (same (position e), same (turn e)) refl
   where
     same : (n : ℕ) → nat_eq n n ≡ true

@@ -8,6 +8,9 @@ pub mod EdgesLine
 pub mod Delays
 pub mod Edges
 pub mod Shifts
+pub mod Spread
+pub mod InsideSpread
+pub mod InsideWindow
 pub mod EdgeRows
 pub mod InsideRows
 pub mod Reports

@@ -9,13 +9,18 @@
 //! `specs/` has a file for each kind of line, and `specs/Reports.antt` the three texts.
 #![tactic(auto)]
 
+mod bounded;
 mod edge_rows;
+mod extremes;
 mod lines;
+mod meeting;
 mod report;
 mod slave_edge;
 mod slave_lines;
 mod slaves;
+mod spread;
+mod windows;
 
 pub use edge_rows::edges_csv;
-pub use report::delay_table;
+pub use report::{delay_table, run_summary};
 pub use slave_edge::SlaveEdge;
