@@ -1,7 +1,7 @@
 -- The greatest window is that of two signals: where two edges of one index are there, so are those of index 0.
-use Rattle.std.specs.Prelude.{◌≡◌, ℕ, zero, suc, ◌+◌, ◌<◌, ◌≤◌, Bool, true, false, not, ◌&&◌, nat_eq, if◌then◌else◌, List, [], ◌∷◌, ◌++◌, length, map, slice_index_or}
-use Rattle.std.specs.List.{All, Contains, filter, range_with_len}
-use Rattle.std.proofs.Common.{ap, ap₂, sym, refl, subst, ◌∙◌, arith, zero-add}
+use Rattle.std.specs.Prelude.{◌≡◌, ℕ, zero, suc, ◌<◌, ◌≤◌, Bool, true, false, not, ◌&&◌, nat_eq, if◌then◌else◌, List, [], ◌∷◌, length, map, slice_index_or}
+use Rattle.std.specs.List.{Contains, filter}
+use Rattle.std.proofs.Common.{ap, ap₂, sym, refl, subst, ◌∙◌, arith}
 use Rattle.std.proofs.lemmas.Bool.Decides.{nat_tests}
 use Rattle.std.proofs.lemmas.List.{get_or-map}
 use Rattle.std.proofs.lemmas.List.FromFn.{get_or-range_with_len}
@@ -11,7 +11,7 @@ use Rattle.segment_bounds.proofs.Greatest.{either_order}
 use Rattle.segment_file.specs.Segment.{SegmentValue}
 use Rattle.sync_units.specs.declared.edge.Signal.{Signal}
 use Rattle.sync_units.specs.declared.edge.Signal.TheVariants.{Sync0, Sync1}
-use Rattle.edge_report.specs.Edges.{AreCounted, AreEdges, edges_of, is_of, rank, total_shift}
+use Rattle.edge_report.specs.Edges.{AreEdges, edges_of, is_of, rank}
 use Rattle.edge_report.specs.InsideWindow.{bounded, bounded_window}
 use Rattle.edge_report.specs.Slaves.{row_of}
 use Rattle.edge_report.specs.Spread.{allowed_between, allowed_of, are_compared, signal_of}
@@ -88,12 +88,12 @@ first_of s edges are x has =
     )
 
 -- the window of two edges, whichever comes first
-either : (s : SegmentValue) (a b : SlaveEdge) → allowed_between s a b ≡ allowed_between s b a
+pub either : (s : SegmentValue) (a b : SlaveEdge) → allowed_between s a b ≡ allowed_between s b a
 either s a b =
     let compared : are_compared a b ≡ are_compared b a = ap₂ (λ x y. x && not y) (turned_around (index a) (index b)) (turned_around (position a) (position b)) in
     ap₂ (λ x y. if x then y else 0) compared (either_order s (signal_of s a) (signal_of s b))
 
-itself : (s : SegmentValue) (a : SlaveEdge) → allowed_between s a a ≡ 0
+pub itself : (s : SegmentValue) (a : SlaveEdge) → allowed_between s a a ≡ 0
 itself s a = rw (number_itself (index a), number_itself (position a)) refl
 
 -- of edges of index 0 it is that of their signals

@@ -6,3 +6,4 @@ pub mod Pairs
 pub mod Reaching
 pub mod Firsts
 pub mod Spreading
+pub mod GreatestPair

@@ -1,12 +1,12 @@
 -- The greatest number of all pairs of a list.
-use Rattle.std.specs.Prelude.{◌≡◌, ℕ, zero, suc, ◌+◌, ◌<◌, ◌≤◌, max, List, [], ◌∷◌, ◌++◌, length, map, slice_index_or}
+use Rattle.std.specs.Prelude.{◌≡◌, ℕ, suc, ◌<◌, ◌≤◌, max, List, [], ◌∷◌, ◌++◌, map, slice_index_or}
 use Rattle.std.specs.List.{All, Contains}
-use Rattle.std.proofs.Common.{ap, sym, refl, subst, ◌∙◌, arith, inl, inr, ◌⊎◌}
-use Rattle.std.proofs.lemmas.Bool.{cases_lt, cases_eq}
+use Rattle.std.proofs.Common.{ap, sym, refl, ◌∙◌, arith, inl, inr, ◌⊎◌}
+use Rattle.std.proofs.lemmas.Bool.{cases_lt}
 use Rattle.std.proofs.lemmas.List.{get_or_default}
-use Rattle.std.proofs.lemmas.List.Elements.{All-head, All-tail, Contains-get_or}
+use Rattle.std.proofs.lemmas.List.Elements.{All-head, All-tail}
 use Rattle.segment_bounds.specs.Window.{greatest, greatest_with}
-use Rattle.segment_bounds.proofs.Greatest.{most, one_of}
+use Rattle.segment_bounds.proofs.Greatest.{most}
 
 -- of images
 with_images : {X Y : Type 0} (f : X → Y) (number : Y → Y → ℕ) (a : X) (bs : List X) → greatest_with number (f a) (map f bs) ≡ greatest_with (λ x y. number (f x) (f y)) a bs

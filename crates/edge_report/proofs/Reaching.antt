@@ -1,10 +1,9 @@
 -- The extremes of some instants, and the edges of an index that come by position.
-use Rattle.std.specs.Prelude.{◌≡◌, ℕ, zero, suc, ◌+◌, ◌-◌, ◌*◌, ◌^◌, ◌<◌, ◌≤◌, min, max, Bool, true, false, not, ◌&&◌, nat_eq, if◌then◌else◌, List, [], ◌∷◌, ◌++◌, length, slice_index_or}
+use Rattle.std.specs.Prelude.{◌≡◌, ℕ, ◌^◌, ◌<◌, ◌≤◌, max, Bool, true, false, not, ◌&&◌, nat_eq, if◌then◌else◌, List, [], ◌∷◌, ◌++◌, slice_index_or}
 use Rattle.std.specs.List.{All}
-use Rattle.std.proofs.Common.{ap, ap₂, sym, refl, subst, ◌∙◌, arith, inl, inr, ◌⊎◌}
-use Rattle.std.proofs.lemmas.Bool.{cases_lt, cases_eq}
+use Rattle.std.proofs.Common.{ap, ap₂, sym, refl, ◌∙◌, arith}
 use Rattle.std.proofs.lemmas.Bool.Decides.{nat_tests}
-use Rattle.std.proofs.lemmas.List.Elements.{All-head, All-tail, All-cons, All-nil, All-push}
+use Rattle.std.proofs.lemmas.List.Elements.{All-head, All-tail, All-nil, All-push}
 use Rattle.segment_bounds.specs.Window.{apart, greatest_with}
 use Rattle.segment_file.specs.Segment.{SegmentValue}
 use Rattle.edge_report.specs.Edges.{total_shift}
@@ -229,3 +228,10 @@ either_way s a b =
     let compared : are_compared a b ≡ are_compared b a = ap₂ (λ x y. x && not y) (same_way (index a) (index b)) (same_way (position a) (position b)) in
     let gap : gap_between s a b ≡ gap_between s b a = omega arith in
     ap₂ (λ x y. if x then y else 0) compared gap
+
+same_number : (n : ℕ) → nat_eq n n ≡ true
+same_number n = grind (arith, nat_tests)
+
+-- an edge makes no pair with itself
+pub none_itself : (s : SegmentValue) (a : SlaveEdge) → spread_between s a a ≡ 0
+none_itself s a = rw (same_number (index a), same_number (position a)) refl

@@ -1,5 +1,5 @@
 -- The spread, one edge on.
-use Rattle.std.specs.Prelude.{◌≡◌, ℕ, ◌+◌, ◌*◌, ◌^◌, ◌<◌, ◌≤◌, max, List, [], ◌∷◌, ◌++◌, length, take, slice_index_or, replicate, Option, Some, None, IfSome, unwrap_or, ◌⊎◌}
+use Rattle.std.specs.Prelude.{◌≡◌, ℕ, ◌+◌, ◌^◌, ◌<◌, ◌≤◌, max, List, [], ◌∷◌, ◌++◌, length, take, slice_index_or, replicate, Option, Some, None, IfSome, unwrap_or, ◌⊎◌}
 use Rattle.std.specs.List.{All}
 use Rattle.std.proofs.Common.{ap, ap₂, sym, refl, subst, ◌∙◌, arith, inl, inr, set}
 use Rattle.std.proofs.lemmas.Bool.{cases_eq}
@@ -11,7 +11,7 @@ use Rattle.segment_file.specs.Segment.{RowValue, SegmentValue}
 use Rattle.segment_file.proofs.LegalLemmas.{row_within}
 use Rattle.sync_units.specs.declared.edge.Signal.{Signal}
 use Rattle.sync_units.specs.declared.edge.Signal.TheVariants.{Sync0, Sync1}
-use Rattle.edge_report.specs.Edges.{AreEdges, IsEdge, shift_of, total_shift}
+use Rattle.edge_report.specs.Edges.{AreEdges, IsEdge, shift_of}
 use Rattle.edge_report.specs.InsideSpread.{moved, no_edge, reach, turned, with_own}
 use Rattle.edge_report.specs.Shifts.{HasSmallShifts}
 use Rattle.edge_report.specs.Slaves.{slave_at}

@@ -6,12 +6,14 @@
 //! counts of frames, the start, the edges. Nothing here knows a frame, a register or a clock; the true
 //! delays and the bounds beside the measured ones are those of `segment_bounds`.
 //!
-//! `specs/` has a file for each kind of line, and `specs/Reports.antt` the three texts.
+//! `specs/` has a file for each kind of line, and `specs/Reports.antt` the texts; the [`laws`] say what
+//! spread and window mean together.
 #![tactic(auto)]
 
 mod bounded;
 mod edge_rows;
 mod extremes;
+pub mod laws;
 mod lines;
 mod meeting;
 mod report;

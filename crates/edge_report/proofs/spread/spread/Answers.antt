@@ -1,4 +1,4 @@
-use Rattle.std.proofs.Common.{◌≡◌, ◌∙◌, ap, arith, length, refl, take_all}
+use Rattle.std.proofs.Common.{◌≡◌, ◌∙◌, ap, arith, refl, take_all}
 use Rattle.std.proofs.lemmas.List.{get_or_default}
 use Rattle.std.specs.Prelude.{slice_index_or}
 use Rattle.sync_units.specs.declared.edge.Signal.TheVariants.{Sync0}

@@ -1,4 +1,4 @@
-use Rattle.std.proofs.Common.{◌≡◌, ◌∙◌, map, refl, rules}
+use Rattle.std.proofs.Common.{◌≡◌, ◌∙◌, map, rules}
 use Rattle.edge_report.specs.InsideWindow.{bounded}
 use Rattle.edge_report.proofs.Firsts.{firsts, windows_of_firsts}
 use Rattle.edge_report.proofs.windows.window.Goals as goal
