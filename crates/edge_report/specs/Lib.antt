@@ -1,0 +1,16 @@
+pub mod Slaves
+pub mod FirstLine
+pub mod SlaveLine
+pub mod LockInLine
+pub mod StartLine
+pub mod FramesLine
+pub mod EdgesLine
+pub mod Delays
+pub mod Edges
+pub mod Shifts
+pub mod Spread
+pub mod InsideSpread
+pub mod InsideWindow
+pub mod EdgeRows
+pub mod InsideRows
+pub mod Reports
