@@ -1,5 +1,5 @@
 -- Which words are a command: what clap makes of them, and which of what it takes asks for something.
-use Rattle.std.specs.Prelude.{ℕ, ◌-◌, ◌^◌, ◌&&◌, ◌||◌, ◌==◌, nat_le, not, Bool, true, false, List, length, codes, Option, Some, None, option_and_then, slice_index, if◌then◌else◌}
+use Rattle.std.specs.Prelude.{ℕ, ⊤, ◌≤◌, ◌-◌, ◌^◌, ◌&&◌, ◌||◌, ◌==◌, nat_le, not, Bool, true, false, List, length, codes, Option, Some, None, option_and_then, slice_index, if◌then◌else◌}
 use Rattle.std.specs.Option.{option_map_or}
 use Rattle.std.specs.Str.{bytes_eq, all_ascii_digits}
 use Rattle.std.specs.Str.Parse.{digits_value}
@@ -83,3 +83,10 @@ made g = option_and_then (λ w. asked w g.first g.second g.edges) g.command
 -- the command of the words, where they have one
 abbrev pub command_of : List (List ℕ) → Option Command
 command_of words = option_and_then made (given words)
+
+-- the ranges of a command's numbers
+abbrev pub HasRanges : Command → Type 0
+HasRanges (Gen slaves seed) = (1 ≤ slaves) × (slaves ≤ 256)
+HasRanges (Drill slaves seed) = (1 ≤ slaves) × (slaves ≤ 256)
+HasRanges (Latch position time_fs) = position ≤ 255
+HasRanges command = ⊤
