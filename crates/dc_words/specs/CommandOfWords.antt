@@ -15,9 +15,11 @@ pub record Given : Type 0 where
   pub second : Option (List ℕ)
   pub edges : Bool
 
+-- the text of the flag says that it was given
 abbrev pub is_on : Option (List ℕ) → Bool
 is_on text = option_map_or (λ t. bytes_eq t (codes "true")) text false
 
+-- what the matches of clap tell of these
 abbrev pub given_of : List Row → Given
 given_of rows = record {
   command = first_of (codes "command") rows;
@@ -77,6 +79,7 @@ asked w None None edges = alone w edges
 asked w (Some a) (Some b) false = with_numbers w a b
 asked w _ _ _ = None
 
+-- the command of what clap finds
 abbrev pub made : Given → Option Command
 made g = option_and_then (λ w. asked w g.first g.second g.edges) g.command
 
