@@ -19,7 +19,8 @@ top = (built dc_app).top
 abbrev pub rules : List Rule
 rules = top.rules
 
--- the plain words so far, by whether the flag was met and behind how many of them
+-- The plain words so far, and whether the flag was met: `p2` two words without it, `e2` two words and then it, `e0-2` it and then two words,
+-- `e1-2` a word, it and a word.
 pub data State : Type 0 where
   p0 : State
   p1 : Text → State

@@ -1,5 +1,5 @@
 -- Which words are a command: what clap makes of them, and which of what it takes asks for something.
-use Rattle.std.specs.Prelude.{ℕ, ◌-◌, ◌^◌, ◌&&◌, ◌||◌, ◌==◌, nat_le, not, Bool, true, false, List, length, codes, Option, Some, None, option_and_then, slice_index, if◌then◌else◌}
+use Rattle.std.specs.Prelude.{ℕ, ⊤, ◌≤◌, ◌-◌, ◌^◌, ◌&&◌, ◌||◌, ◌==◌, nat_le, not, Bool, true, false, List, length, codes, Option, Some, None, option_and_then, slice_index, if◌then◌else◌}
 use Rattle.std.specs.Option.{option_map_or}
 use Rattle.std.specs.Str.{bytes_eq, all_ascii_digits}
 use Rattle.std.specs.Str.Parse.{digits_value}
@@ -15,9 +15,11 @@ pub record Given : Type 0 where
   pub second : Option (List ℕ)
   pub edges : Bool
 
+-- the text of the flag says that it was given
 abbrev pub is_on : Option (List ℕ) → Bool
 is_on text = option_map_or (λ t. bytes_eq t (codes "true")) text false
 
+-- what the matches of clap tell of these
 abbrev pub given_of : List Row → Given
 given_of rows = record {
   command = first_of (codes "command") rows;
@@ -77,9 +79,17 @@ asked w None None edges = alone w edges
 asked w (Some a) (Some b) false = with_numbers w a b
 asked w _ _ _ = None
 
+-- the command of what clap finds
 abbrev pub made : Given → Option Command
 made g = option_and_then (λ w. asked w g.first g.second g.edges) g.command
 
 -- the command of the words, where they have one
 abbrev pub command_of : List (List ℕ) → Option Command
 command_of words = option_and_then made (given words)
+
+-- the ranges of a command's numbers
+abbrev pub HasRanges : Command → Type 0
+HasRanges (Gen slaves seed) = (1 ≤ slaves) × (slaves ≤ 256)
+HasRanges (Drill slaves seed) = (1 ≤ slaves) × (slaves ≤ 256)
+HasRanges (Latch position time_fs) = position ≤ 255
+HasRanges command = ⊤

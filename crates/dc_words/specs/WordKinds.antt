@@ -21,6 +21,7 @@ with_plain word s = record s { plain = word ∷ s.plain }
 abbrev pub with_flag : Sorted → Sorted
 with_flag s = record s { flags = s.flags + 1 }
 
+-- two bytes or more, of which the first is `-` (45)
 abbrev pub begins_with_dash : List ℕ → Bool
 begins_with_dash word = nat_le 2 (length word) && slice_index word 0 == 45
 
@@ -59,9 +60,10 @@ at_most_once zero = Some false
 at_most_once (suc zero) = Some true
 at_most_once (suc (suc n)) = None
 
--- what such words give
+-- what so many plain words and flags give
 abbrev pub placed : List (List ℕ) → ℕ → Option Given
 placed plain flags = option_and_then (in_places plain) (at_most_once flags)
 
+-- what sorted words give
 abbrev pub given_of_sorted : Option Sorted → Option Given
 given_of_sorted s = option_and_then (λ s. placed s.plain s.flags) s

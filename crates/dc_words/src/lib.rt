@@ -10,6 +10,8 @@ mod command_line;
 pub mod laws;
 mod numeral;
 mod read;
+#[cfg(test)]
+mod tests;
 
 pub use command::Command;
 pub use read::read_words;

@@ -1,7 +1,7 @@
 // What words ask for.
-ghost use Rattle.std.specs.Prelude.{◌≡◌, ◌⊎◌, Some, IfOk, codes, map, option_map, string_bytes};
+ghost use Rattle.std.specs.Prelude.{◌≡◌, ◌⊎◌, Some, IfOk, IfSome, codes, map, option_map, string_bytes};
 ghost use Rattle.clap.specs.Words.{found_of, one_text, rows_of};
-ghost use Rattle.dc_words.specs.CommandOfWords.{alone, asked, with_numbers, made, given_of, command_of};
+ghost use Rattle.dc_words.specs.CommandOfWords.{HasRanges, alone, asked, command_of, given_of, made, with_numbers};
 
 use crate::Command;
 use crate::command_line::command_line;
@@ -14,7 +14,8 @@ use std::alloc::Global;
 /// The command of the words, which stand without the name of the program. It is `None` where they have none; an error comes for want
 /// of memory alone.
 pub fn read_words(alloc: Global, words: &[String]) -> Result<Option<Command>, NoMemory>
-    ensures { IfOk result (λ command. command ≡ command_of (map string_bytes words.now)) }
+    ensures is { IfOk result (λ command. command ≡ command_of (map string_bytes words.now)) }
+    ensures ranges { IfOk result (λ command. IfSome command HasRanges) }
 {
     let Ok(line) = command_line(alloc) else {
         return Err(NoMemory);
