@@ -7,3 +7,4 @@ pub mod Starting
 pub mod RowWrites
 pub mod Storing
 pub mod Showing
+mod OwnTimes

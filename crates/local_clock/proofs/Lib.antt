@@ -8,3 +8,4 @@ pub mod History
 pub mod LocalTime
 pub mod Steady
 pub mod Behind
+mod Rounds

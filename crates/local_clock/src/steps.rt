@@ -1,4 +1,4 @@
-ghost use Rattle.std.specs.Prelude.{◌≡◌, ℕ, ◌+◌, ◌^◌, ◌<◌, ◌≤◌, pos, unsigned_abs};
+ghost use Rattle.std.specs.Prelude.{◌≡◌, ℕ, ◌+◌, ◌/◌, ◌%◌, ◌^◌, ◌<◌, ◌≤◌, pos, unsigned_abs};
 ghost use Rattle.local_clock.specs.StepRule.{elapsed, steered};
 ghost use Rattle.local_clock.specs.AtOnce.{done, counted};
 
@@ -11,13 +11,27 @@ fn corrections(size: u64, count: u8, g: u8, k: u64) -> (u64, u8)
     ensures below { result.1 < g }
     ensures rests { result.0 ≡ size → result.1 ≡ 0 }
 {
-    let turns = u128::from(count) + u128::from(k);
-    let every = u128::from(g);
-    let rounds = turns / every;
-    if rounds < u128::from(size) {
-        (rounds as u64, (turns % every) as u8)
+    let (rounds, rest) = rounds(count, g, k);
+    if rounds < size {
+        (rounds, rest)
     } else {
         (size, 0)
+    }
+}
+
+// How often the ticks come to g in k more of them, and the ticks after the last time.
+fn rounds(count: u8, g: u8, k: u64) -> (u64, u8)
+    requires { count < g }
+    ensures rounds { result.0 ≡ (count + k) / g }
+    ensures rest { result.1 ≡ (count + k) % g }
+{
+    let every = u64::from(g);
+    let whole = k / every;
+    let rest = u64::from(count) + k % every;
+    if rest < every {
+        (whole, rest as u8)
+    } else {
+        (whole + 1, (rest - every) as u8)
     }
 }
 

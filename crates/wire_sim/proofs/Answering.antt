@@ -2,7 +2,8 @@
 use Rattle.std.proofs.Common.{◌≡◌, ◌↔◌, ℕ, List, length, Bool, true, false, Some, None, Option, ◌||◌, refl, sym, ap, ◌∙◌}
 use Rattle.std.specs.Prelude.{slice_get, if◌then◌else◌}
 use Rattle.ecat_frame.specs.FrameGrammar.{DatagramValue, FrameValue}
-use Rattle.ecat_frame.specs.Changed.{changed, answered}
+use Rattle.ecat_frame.specs.Changed.{changed}
+use Rattle.wire_sim.specs.Seen.{replied}
 use Rattle.ecat_frame.proofs.Changes.{changed_agree}
 use Rattle.esc_regs.specs.declared.answers.Access.{Access}
 use Rattle.esc_regs.specs.declared.answers.Access.TheVariants as access
@@ -126,19 +127,20 @@ pub refused_write : (s : Slave) (addr : ℕ) (bytes : List ℕ) → is_refused s
 unfolding wrote
 refused_write s addr bytes e = rw e (left s s.timing refl)
 
-parts : (s : Slave) (d : DatagramValue) (adp wkc : ℕ) (payload : List ℕ) → adp ≡ adp_after d → payload ≡ payload_after (doing s d) s d
-    → wkc ≡ raised_by (gain (doing s d)) d.wkc → answered adp payload wkc d ≡ datagram_after s d
+parts : (s : Slave) (d : DatagramValue) (read : Bool) (adp wkc : ℕ) (payload : List ℕ) → read ≡ reads (doing s d) → adp ≡ adp_after d
+    → (read ≡ true → payload ≡ payload_after (doing s d) s d) → wkc ≡ raised_by (gain (doing s d)) d.wkc → replied read adp payload wkc d ≡ datagram_after s d
 unfolding datagram_after
-parts s d adp wkc payload a p c = rw (a, p, c) refl
+parts s d true adp wkc payload r a p c = rw (a, p refl, c) refl
+parts s d false adp wkc payload r a p c = let stays = payload_stays s d (doing s d) (sym r) in rw (a, c, stays) refl
 
 -- the datagram behind the slave, by its parts
 pub answered_is : (s : Slave) (d : DatagramValue) (k : ℕ) (f : FrameValue) (request does : Doing) (read write : Bool) (adp wkc : ℕ) (payload : List ℕ)
     → slice_get f.datagrams k ≡ Some d → request ≡ asked s d → read ≡ reads (doing s d) → write ≡ writes (doing s d)
-    → does ≡ (if read || write then request else Passes) → adp ≡ adp_after d → payload ≡ payload_after (doing s d) s d → wkc ≡ raised_by (gain does) d.wkc
-    → changed k (answered adp payload wkc) f ≡ changed k (datagram_after s) f
+    → does ≡ (if read || write then request else Passes) → adp ≡ adp_after d → (read ≡ true → payload ≡ payload_after (doing s d) s d)
+    → wkc ≡ raised_by (gain does) d.wkc → changed k (replied read adp payload wkc) f ≡ changed k (datagram_after s) f
 answered_is s d k f request does read write adp wkc payload is asks r w does_is a p c =
     let same : does ≡ doing s d = does_is ∙ what_is_done s d (is_refused_by s d) request read write refl asks r w in
-    changed_agree k (answered adp payload wkc) (datagram_after s) f d is (parts s d adp wkc payload a p (c ∙ ap (λ x. raised_by (gain x) d.wkc) same))
+    changed_agree k (replied read adp payload wkc) (datagram_after s) f d is (parts s d read adp wkc payload r a p (c ∙ ap (λ x. raised_by (gain x) d.wkc) same))
   where
     pass_on : (read write : Bool) (request : Doing) → read ≡ false → write ≡ false → (if read || write then request else Passes) ≡ Passes
     pass_on read write request r w = rw (r, w) refl

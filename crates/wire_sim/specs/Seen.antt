@@ -1,5 +1,5 @@
 -- What a wire keeps, as it is told.
-use Rattle.std.specs.Prelude.{◌≡◌, ℕ, ⊤, List, [], length, Option, Some, None}
+use Rattle.std.specs.Prelude.{◌≡◌, ℕ, ⊤, Bool, if◌then◌else◌, List, [], length, Option, Some, None}
 use Rattle.std.specs.Option.{option_map_or}
 use Rattle.cable_tree.specs.declared.port.Port.{Port}
 use Rattle.cable_tree.specs.declared.port.Port.TheVariants.{P1, P2, P3}
@@ -7,6 +7,8 @@ use Rattle.esc_regs.specs.declared.clock_kind.ClockKind.{ClockKind}
 use Rattle.frame_pass.specs.SlaveState.{Visits, Timing, Measuring, Slave, width}
 use Rattle.sync_units.specs.declared.edge.Edge.{Edge}
 use Rattle.esc_regs.specs.RegisterFile.{Registers}
+use Rattle.ecat_frame.specs.FrameGrammar.{DatagramValue}
+use Rattle.ecat_frame.specs.Changed.{answered}
 use Rattle.frame_pass.specs.DatagramTable as table
 use Rattle.wire_sim.specs.declared.doing.Doing.{Doing}
 use Rattle.wire_sim.specs.declared.doing.Doing.TheVariants as doing
@@ -56,3 +58,7 @@ edges_kept s = option_map_or (λ t. t.edges.edges) s.timing []
 abbrev pub reach_of : Option ℕ → List Slave → ℕ
 reach_of None ss = length ss
 reach_of (Some after) ss = after
+
+-- a datagram that leaves a slave with this ADP and counter, and with these data where it was read
+abbrev pub replied : Bool → ℕ → List ℕ → ℕ → DatagramValue → DatagramValue
+replied read adp payload wkc d = if read then answered adp payload wkc d else record d { head = record d.head { adp = adp }; wkc = wkc }

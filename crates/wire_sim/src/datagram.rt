@@ -1,13 +1,13 @@
 //! A datagram at one slave.
 
-ghost use Rattle.std.specs.Prelude.{◌≡◌, ◌==◌, ◌<◌, ◌≤◌, false, length, slice_get, IfSome, if◌then◌else◌};
+ghost use Rattle.std.specs.Prelude.{◌≡◌, ◌==◌, ◌<◌, ◌≤◌, true, false, length, slice_get, IfSome, if◌then◌else◌};
 ghost use Rattle.std.specs.Option.{is_some, unwrap_or};
 ghost use Rattle.ecat_frame.specs.Changed.{changed};
 ghost use Rattle.ecat_frame.specs.Reading.{seen};
 ghost use Rattle.frame_pass.specs.DatagramTable.{Passes, doing_by, reads, writes, raises_adp, raised_by};
 ghost use Rattle.frame_pass.specs.SlaveState.{station};
 ghost use Rattle.frame_pass.specs.DatagramAtSlave.{asked, doing, merged, payload_after, datagram_after, slave_after, is_latching};
-ghost use Rattle.wire_sim.specs.Seen.{doing_seen};
+ghost use Rattle.wire_sim.specs.Seen.{doing_seen, replied};
 
 use crate::doing::{Doing, merges, raises_adp};
 use crate::slave::Slave;
@@ -45,8 +45,22 @@ fn answer_in(slave: &mut Slave, frame: &mut Frame, k: usize, room: &mut [u8]) ->
     let doing = done_by(request, read | written.is_some());
     let adp = adp_after(datagram.head);
     let wkc = datagram.wkc.wrapping_add(doing.gain());
-    frame.set_answer(k, adp, room, wkc);
+    reply(frame, k, read, adp, room, wkc);
     written.unwrap_or(false)
+}
+
+// Leaves of datagram k what the slave made of it; its data only where it was read.
+fn reply(frame: &mut Frame, k: usize, read: bool, adp: u16, payload: &[u8], wkc: u16)
+    requires within { k < length frame.old.datagrams }
+    requires size { IfSome (slice_get frame.old.datagrams k) (λ d. length payload.now ≡ length d.payload) }
+    ensures { frame.new ≡ changed k (replied read adp payload.now wkc) frame.old }
+{
+    if read {
+        frame.set_answer(k, adp, payload, wkc);
+    } else {
+        frame.set_adp(k, adp);
+        frame.set_wkc(k, wkc);
+    }
 }
 
 // What a datagram asks of the slave.
@@ -63,14 +77,14 @@ fn done_by(request: Doing, acts: bool) -> Doing
     if acts { request } else { Doing::Passes }
 }
 
-// Puts the data behind the slave into the room, and tells whether the slave reads.
+// Tells whether the slave reads, and then puts the data behind it into the room.
 fn gather(slave: &Slave, request: Doing, datagram: &Datagram, room: &mut [u8]) -> bool
     requires request { doing_seen request ≡ asked slave.now (seen datagram.now) }
     requires size { length room.old ≡ length datagram.now.payload.now }
-    ensures is { room.new ≡ payload_after (doing slave.now (seen datagram.now)) slave.now (seen datagram.now) }
+    ensures is { result ≡ true → room.new ≡ payload_after (doing slave.now (seen datagram.now)) slave.now (seen datagram.now) }
     ensures reads { result ≡ reads (doing slave.now (seen datagram.now)) }
+    ensures size { length room.new ≡ length room.old }
 {
-    room.copy_from_slice(datagram.payload);
     if !request.reads() {
         return false;
     }

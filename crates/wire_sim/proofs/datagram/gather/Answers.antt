@@ -1,14 +1,8 @@
-use Rattle.std.proofs.Common.{length, sym, ap, ◌∙◌}
+use Rattle.std.proofs.Common.{sym, ap, ◌∙◌}
 use Rattle.ecat_frame.specs.Reading.{seen}
 use Rattle.frame_pass.specs.DatagramTable.{reads}
-use Rattle.wire_sim.proofs.Answering.{doing_refused, doing_taken, no_reads, payload_stays, read_refused, read_taken, payload_merged}
+use Rattle.wire_sim.proofs.Answering.{doing_refused, doing_taken, no_reads, read_refused, read_taken, payload_merged}
 use Rattle.wire_sim.proofs.datagram.gather.Goals as goal
-
-pub returns-then-not-reads-clause-is : goal.returns-then-not-reads-clause-is
-returns-then-not-reads-clause-is c =
-    let s = c.args.slave.now in
-    let d = seen c.args.datagram.now in
-    c.copy_from_slice.ensures.after ∙ sym (payload_stays s d _ (no_reads s d _ c.requires.request (sym c.if-not-reads.ensures)))
 
 pub returns-then-not-reads-clause-reads : goal.returns-then-not-reads-clause-reads
 returns-then-not-reads-clause-reads c =
@@ -16,32 +10,25 @@ returns-then-not-reads-clause-reads c =
     let d = seen c.args.datagram.now in
     sym (no_reads s d _ c.requires.request (sym c.if-not-reads.ensures))
 
-pub returns-in-Refused-clause-is : goal.returns-in-Refused-clause-is
-returns-in-Refused-clause-is c =
-    let s = c.args.slave.now in
-    let d = seen c.args.datagram.now in
-    let e = read_refused s d _ _ (ap length c.copy_from_slice.ensures.after) c.read.ensures.refused c.in-Refused.is in
-    c.read.ensures.stays c.in-Refused.is ∙ c.copy_from_slice.ensures.after ∙ sym (payload_stays s d _ (ap reads (doing_refused s d e)))
-
 pub returns-in-Refused-clause-reads : goal.returns-in-Refused-clause-reads
 returns-in-Refused-clause-reads c =
     let s = c.args.slave.now in
     let d = seen c.args.datagram.now in
-    let e = read_refused s d _ _ (ap length c.copy_from_slice.ensures.after) c.read.ensures.refused c.in-Refused.is in
+    let e = read_refused s d _ _ c.requires.size c.read.ensures.refused c.in-Refused.is in
     sym (ap reads (doing_refused s d e))
 
 pub returns-in-Done-clause-is : goal.returns-in-Done-clause-is
 returns-in-Done-clause-is c =
+    λ _.
     let s = c.args.slave.now in
     let d = seen c.args.datagram.now in
-    let size = ap length c.copy_from_slice.ensures.after in
-    let e = read_taken s d _ _ size c.read.ensures.refused c.in-Done.is in
-    payload_merged s d _ _ c.merges.result c.read.new.out c.merge_if.new.room size c.requires.request e (sym c.if-not-reads.ensures) (c.read.ensures.some c.in-Done.is)
+    let e = read_taken s d _ _ c.requires.size c.read.ensures.refused c.in-Done.is in
+    payload_merged s d _ _ c.merges.result c.read.new.out c.merge_if.new.room c.requires.size c.requires.request e (sym c.if-not-reads.ensures) (c.read.ensures.some c.in-Done.is)
     c.merges.ensures c.merge_if.ensures
 
 pub returns-in-Done-clause-reads : goal.returns-in-Done-clause-reads
 returns-in-Done-clause-reads c =
     let s = c.args.slave.now in
     let d = seen c.args.datagram.now in
-    let e = read_taken s d _ _ (ap length c.copy_from_slice.ensures.after) c.read.ensures.refused c.in-Done.is in
+    let e = read_taken s d _ _ c.requires.size c.read.ensures.refused c.in-Done.is in
     c.if-not-reads.ensures ∙ sym (ap reads (doing_taken s d _ c.requires.request e))
