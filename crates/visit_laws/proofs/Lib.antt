@@ -1,0 +1,4 @@
+pub mod Table
+pub mod Effects
+pub mod Latching
+pub mod Ports

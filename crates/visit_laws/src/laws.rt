@@ -1,0 +1,23 @@
+//! Laws over the definitions alone, for proofs of the layers above.
+
+ghost use Rattle.std.specs.Prelude.{◌≡◌, ℕ, List, ◌++◌, length, true, false, Option, Some};
+ghost use Rattle.ecat_frame.specs.FrameGrammar.{DatagramValue};
+ghost use Rattle.osc_clock.specs.Ticks.{IsRunning};
+ghost use Rattle.local_clock.specs.Reading.{Clock, Happening, reading_at};
+ghost use Rattle.frame_pass.specs.SlaveState.{Slave, Timing, holds};
+ghost use Rattle.frame_pass.specs.Advancing.{advanced_to};
+ghost use Rattle.frame_pass.specs.FramePass.{slave_passed, are_latching, at_arrival};
+ghost use Rattle.frame_pass.specs.ClockHistory.{HasHistory, events_passed};
+ghost use Rattle.visit_laws.specs.ReceiveTimes.{IsReceiveTime, IsBefore, AreReceiveTimes};
+
+/// A frame with a datagram that makes a measuring slave latch leaves in its receive times what the clock of its history
+/// shows at the frame's visits; where the frame does not come back into a port, the port's stays. A frame that has no
+/// such datagram leaves them all, and so does time.
+pub fn receive_times()
+    ensures latched { (w : ℕ) (c : Clock) (events : List Happening) (sent : ℕ) (end : Option ℕ) (s : Slave) (m : Timing) (ds : List DatagramValue) → IsRunning c.osc
+        → s.timing ≡ Some m → IsBefore sent s → HasHistory w c events s → are_latching (at_arrival sent s) ds ≡ true
+        → AreReceiveTimes (reading_at w c (events ++ events_passed sent s ds)) sent end s.visits s.registers (slave_passed sent end s ds).registers }
+    ensures left { (at n sent : ℕ) (end : Option ℕ) (s : Slave) (ds : List DatagramValue) → IsReceiveTime at n → length s.registers.bytes ≡ 4096
+        → are_latching (at_arrival sent s) ds ≡ false → holds n at (slave_passed sent end s ds).registers ≡ holds n at s.registers }
+    ensures time { (at n t : ℕ) (s : Slave) → IsReceiveTime at n → length s.registers.bytes ≡ 4096 → holds n at (advanced_to t s).registers ≡ holds n at s.registers }
+{}
