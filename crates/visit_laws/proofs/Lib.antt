@@ -2,3 +2,4 @@ pub mod Table
 pub mod Effects
 pub mod Latching
 pub mod Ports
+pub mod DataRead

@@ -1,1 +1,2 @@
 pub mod ReceiveTimes
+pub mod Drift

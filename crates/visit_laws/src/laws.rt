@@ -1,10 +1,14 @@
 //! Laws over the definitions alone, for proofs of the layers above.
 
-ghost use Rattle.std.specs.Prelude.{◌≡◌, ℕ, List, ◌++◌, length, true, false, Option, Some};
+ghost use Rattle.std.specs.Prelude.{◌≡◌, ℕ, ◌+◌, ◌%◌, ◌^◌, ◌≤◌, List, ◌++◌, length, true, false, Option, Some};
 ghost use Rattle.ecat_frame.specs.FrameGrammar.{DatagramValue};
 ghost use Rattle.osc_clock.specs.Ticks.{IsRunning};
 ghost use Rattle.local_clock.specs.Reading.{Clock, Happening, reading_at};
 ghost use Rattle.frame_pass.specs.SlaveState.{Slave, Timing, holds};
+ghost use Rattle.esc_regs.specs.RegisterBytes.{number_at, AreApart};
+ghost use Rattle.frame_pass.specs.LiveRegisters.{system_time};
+ghost use Rattle.frame_pass.specs.DatagramTable.{reads, merges};
+ghost use Rattle.frame_pass.specs.DatagramAtSlave.{doing, datagram_after};
 ghost use Rattle.frame_pass.specs.Advancing.{advanced_to};
 ghost use Rattle.frame_pass.specs.FramePass.{slave_passed, are_latching, at_arrival};
 ghost use Rattle.frame_pass.specs.ClockHistory.{HasHistory, events_passed};
@@ -20,4 +24,17 @@ pub fn receive_times()
     ensures left { (at n sent : ℕ) (end : Option ℕ) (s : Slave) (ds : List DatagramValue) → IsReceiveTime at n → length s.registers.bytes ≡ 4096
         → are_latching (at_arrival sent s) ds ≡ false → holds n at (slave_passed sent end s ds).registers ≡ holds n at s.registers }
     ensures time { (at n t : ℕ) (s : Slave) → IsReceiveTime at n → length s.registers.bytes ≡ 4096 → holds n at (advanced_to t s).registers ≡ holds n at s.registers }
+{}
+
+/// What a datagram reads: the numbers that the slave shows. Those of 0x0910 and 0x0990 apart, these are the numbers that
+/// it holds; at 0x0910 it is the system time, here its low half.
+pub fn read_numbers()
+    ensures held { (s : Slave) (d : DatagramValue) (j k : ℕ) → length s.registers.bytes ≡ 4096 → reads (doing s d) ≡ true → merges d.head.command ≡ false → j + k ≤ length d.payload
+        → AreApart 0x0910 8 (d.head.ado + j) k → AreApart 0x0990 8 (d.head.ado + j) k
+        → number_at k j (datagram_after s d).payload ≡ holds k (d.head.ado + j) s.registers }
+    ensures system_time { (s : Slave) (m : Timing) (d : DatagramValue) → length s.registers.bytes ≡ 4096 → s.timing ≡ Some m → reads (doing s d) ≡ true → merges d.head.command ≡ false
+        → d.head.ado ≡ 0x0910 → 4 ≤ length d.payload
+        → number_at 4 0 (datagram_after s d).payload ≡ system_time (record { registers = s.registers; timing = m }) % 2 ^ 32 }
+    ensures size { (s : Slave) (d : DatagramValue) → length s.registers.bytes ≡ 4096 → reads (doing s d) ≡ true → merges d.head.command ≡ false
+        → length (datagram_after s d).payload ≡ length d.payload }
 {}

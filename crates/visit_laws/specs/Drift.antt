@@ -1,0 +1,24 @@
+-- The datagram by which a slave tells its system time, and every other compares its own with it.
+use Rattle.std.specs.Prelude.{◌≡◌, ℕ, zero, suc, List, [], ◌∷◌, length}
+use Rattle.ecat_frame.specs.FrameGrammar.{DatagramValue}
+use Rattle.ecat_frame.specs.declared.command.Command.TheVariants.{Frmw}
+use Rattle.esc_regs.specs.RegisterBytes.{number_at}
+use Rattle.frame_pass.specs.SlaveState.{Slave}
+use Rattle.frame_pass.specs.DatagramAtSlave.{datagram_after}
+use Rattle.frame_pass.specs.FramePass.{at_arrival}
+
+-- FRMW of the four low bytes of the system time
+pub record IsDrift (d : DatagramValue) : Type 0 where
+  pub command : d.head.command ≡ Frmw
+  pub ado : d.head.ado ≡ 0x0910
+  pub size : length d.payload ≡ 4
+
+-- the time that such a datagram brings
+abbrev pub time_in : DatagramValue → ℕ
+time_in d = number_at 4 0 d.payload
+
+-- the first datagram of a frame behind the first h slaves
+unfoldable pub first_behind : ℕ → ℕ → List Slave → DatagramValue → DatagramValue
+first_behind zero sent ss d = d
+first_behind (suc h) sent [] d = d
+first_behind (suc h) sent (s ∷ ss) d = first_behind h sent ss (datagram_after (at_arrival sent s) d)
