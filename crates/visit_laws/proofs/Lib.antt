@@ -3,3 +3,4 @@ pub mod Effects
 pub mod Latching
 pub mod Ports
 pub mod DataRead
+pub mod Drifting

@@ -1,17 +1,21 @@
 //! Laws over the definitions alone, for proofs of the layers above.
 
-ghost use Rattle.std.specs.Prelude.{◌≡◌, ℕ, ◌+◌, ◌%◌, ◌^◌, ◌≤◌, List, ◌++◌, length, true, false, Option, Some};
+ghost use Rattle.std.specs.Prelude.{◌≡◌, ℕ, ◌+◌, ◌%◌, ◌^◌, ◌≤◌, ◌==◌, List, [], ◌∷◌, ◌++◌, length, true, false, Option, Some};
 ghost use Rattle.ecat_frame.specs.FrameGrammar.{DatagramValue};
 ghost use Rattle.osc_clock.specs.Ticks.{IsRunning};
-ghost use Rattle.local_clock.specs.Reading.{Clock, Happening, reading_at};
-ghost use Rattle.frame_pass.specs.SlaveState.{Slave, Timing, holds};
+ghost use Rattle.local_clock.specs.Reading.{Clock, Happening, received, reading_at};
+ghost use Rattle.frame_pass.specs.SlaveState.{Slave, Timing, holds, station};
 ghost use Rattle.esc_regs.specs.RegisterBytes.{number_at, AreApart};
+ghost use Rattle.esc_regs.specs.RegisterAccess.{is_refused};
+ghost use Rattle.esc_regs.specs.declared.clock_kind.ClockKind.TheVariants as ClockKind;
 ghost use Rattle.frame_pass.specs.LiveRegisters.{system_time};
+ghost use Rattle.frame_pass.specs.WriteEffects.{difference};
 ghost use Rattle.frame_pass.specs.DatagramTable.{reads, merges};
-ghost use Rattle.frame_pass.specs.DatagramAtSlave.{doing, datagram_after};
+ghost use Rattle.frame_pass.specs.DatagramAtSlave.{is_refused_by, doing, datagram_after, slave_after};
 ghost use Rattle.frame_pass.specs.Advancing.{advanced_to};
 ghost use Rattle.frame_pass.specs.FramePass.{slave_passed, are_latching, at_arrival};
-ghost use Rattle.frame_pass.specs.ClockHistory.{HasHistory, events_passed};
+ghost use Rattle.frame_pass.specs.ClockHistory.{HasHistory, events_by, events_passed};
+ghost use Rattle.visit_laws.specs.Drift.{IsDrift, time_in};
 ghost use Rattle.visit_laws.specs.ReceiveTimes.{IsReceiveTime, IsBefore, AreReceiveTimes};
 
 /// A frame with a datagram that makes a measuring slave latch leaves in its receive times what the clock of its history
@@ -37,4 +41,20 @@ pub fn read_numbers()
         → number_at 4 0 (datagram_after s d).payload ≡ system_time (record { registers = s.registers; timing = m }) % 2 ^ 32 }
     ensures size { (s : Slave) (d : DatagramValue) → length s.registers.bytes ≡ 4096 → reads (doing s d) ≡ true → merges d.head.command ≡ false
         → length (datagram_after s d).payload ≡ length d.payload }
+{}
+
+/// What the datagram of a drift frame (FRMW of four bytes at 0x0910) does at one slave: where it is not addressed, the clock
+/// receives the difference of its system time and the time that the datagram brings, and the data go on as they are;
+/// where it is, the slave is left, and the data are the low half of its system time. A refusal leaves slave and data.
+pub fn drift_at_slave()
+    ensures receives { (s : Slave) (m : Timing) (d : DatagramValue) → length s.registers.bytes ≡ 4096 → s.timing ≡ Some m → IsDrift d → is_refused_by s d ≡ false
+        → (d.head.adp == station s.registers) ≡ false
+        → events_by s d ≡ record { instant = m.clock.instant; event = received (difference (record { registers = s.registers; timing = m }) (time_in d)) } ∷ [] }
+    ensures unaddressed { (s : Slave) (d : DatagramValue) → IsDrift d → (d.head.adp == station s.registers) ≡ false → (datagram_after s d).payload ≡ d.payload }
+    ensures tells { (s : Slave) (m : Timing) (d : DatagramValue) → length s.registers.bytes ≡ 4096 → s.timing ≡ Some m → IsDrift d → is_refused_by s d ≡ false
+        → (d.head.adp == station s.registers) ≡ true
+        → time_in (datagram_after s d) ≡ system_time (record { registers = s.registers; timing = m }) % 2 ^ 32 }
+    ensures addressed { (s : Slave) (d : DatagramValue) → IsDrift d → (d.head.adp == station s.registers) ≡ true → (slave_after s d ≡ s) × (events_by s d ≡ []) }
+    ensures refused { (s : Slave) (d : DatagramValue) → is_refused_by s d ≡ true → (slave_after s d ≡ s) × (events_by s d ≡ []) × ((datagram_after s d).payload ≡ d.payload) }
+    ensures kinds { (is_refused ClockKind.None 0x0910 4 ≡ true) × (is_refused ClockKind.R32 0x0910 4 ≡ true) × (is_refused ClockKind.C32 0x0910 4 ≡ false) × (is_refused ClockKind.C64 0x0910 4 ≡ false) }
 {}
