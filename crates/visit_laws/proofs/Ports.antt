@@ -44,7 +44,7 @@ later : (x : Told) (t u : ℕ) (s : Slave) → t ≤ u → Goes x t s → Goes x
 later x t u s le h = record { timing = h.timing; is = h.is; size = h.size; early = omega (arith, le, h.early); history = h.history }
 
 -- advanced to t it stands there
-there : (t : ℕ) (m : Measuring) → m.timing.clock.instant ≤ t → (measuring_at t m).timing.clock.instant ≡ t
+pub there : (t : ℕ) (m : Measuring) → m.timing.clock.instant ≤ t → (measuring_at t m).timing.clock.instant ≡ t
 unfolding measuring_at ticked_to
 there t m early = by (nat_le m.timing.clock.instant t) refl
   where

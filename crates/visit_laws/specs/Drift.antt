@@ -1,9 +1,9 @@
 -- The datagram by which a slave tells its system time, and every other compares its own with it.
-use Rattle.std.specs.Prelude.{◌≡◌, ℕ, zero, suc, List, [], ◌∷◌, length}
+use Rattle.std.specs.Prelude.{◌≡◌, ◌≢◌, ℕ, zero, suc, ◌<◌, ◌==◌, false, List, [], ◌∷◌, length, Some, slice_get}
 use Rattle.ecat_frame.specs.FrameGrammar.{DatagramValue}
 use Rattle.ecat_frame.specs.declared.command.Command.TheVariants.{Frmw}
 use Rattle.esc_regs.specs.RegisterBytes.{number_at}
-use Rattle.frame_pass.specs.SlaveState.{Slave}
+use Rattle.frame_pass.specs.SlaveState.{Slave, station}
 use Rattle.frame_pass.specs.DatagramAtSlave.{datagram_after}
 use Rattle.frame_pass.specs.FramePass.{at_arrival}
 
@@ -22,3 +22,12 @@ unfoldable pub first_behind : ℕ → ℕ → List Slave → DatagramValue → D
 first_behind zero sent ss d = d
 first_behind (suc h) sent [] d = d
 first_behind (suc h) sent (s ∷ ss) d = first_behind h sent ss (datagram_after (at_arrival sent s) d)
+
+-- a slave with 4096 bytes of registers whose station address is another
+pub record IsOther (adp : ℕ) (s : Slave) : Type 0 where
+  pub size : length s.registers.bytes ≡ 4096
+  pub station : (adp == station s.registers) ≡ false
+
+-- of the first h slaves, so is each but the one at position q
+abbrev pub AreOthersThan : ℕ → ℕ → ℕ → List Slave → Type 0
+AreOthersThan q adp h ss = (i : ℕ) (s : Slave) → i < h → slice_get ss i ≡ Some s → i ≢ q → IsOther adp s

@@ -1,6 +1,6 @@
 //! Laws over the definitions alone, for proofs of the layers above.
 
-ghost use Rattle.std.specs.Prelude.{◌≡◌, ℕ, ◌+◌, ◌%◌, ◌^◌, ◌≤◌, ◌==◌, List, [], ◌∷◌, ◌++◌, length, true, false, Option, Some};
+ghost use Rattle.std.specs.Prelude.{◌≡◌, ℕ, ◌+◌, ◌%◌, ◌^◌, ◌≤◌, ◌<◌, ◌==◌, List, [], ◌∷◌, ◌++◌, length, true, false, Option, Some, slice_get};
 ghost use Rattle.ecat_frame.specs.FrameGrammar.{DatagramValue};
 ghost use Rattle.osc_clock.specs.Ticks.{IsRunning};
 ghost use Rattle.local_clock.specs.Reading.{Clock, Happening, received, reading_at};
@@ -12,10 +12,11 @@ ghost use Rattle.frame_pass.specs.LiveRegisters.{system_time};
 ghost use Rattle.frame_pass.specs.WriteEffects.{difference};
 ghost use Rattle.frame_pass.specs.DatagramTable.{reads, merges};
 ghost use Rattle.frame_pass.specs.DatagramAtSlave.{is_refused_by, doing, datagram_after, slave_after};
-ghost use Rattle.frame_pass.specs.Advancing.{advanced_to};
-ghost use Rattle.frame_pass.specs.FramePass.{slave_passed, are_latching, at_arrival};
+ghost use Rattle.frame_pass.specs.Advancing.{advanced_to, measuring_at};
+ghost use Rattle.frame_pass.specs.FramePass.{slave_passed, datagrams_behind, are_latching, at_arrival};
 ghost use Rattle.frame_pass.specs.ClockHistory.{HasHistory, events_by, events_passed};
-ghost use Rattle.visit_laws.specs.Drift.{IsDrift, time_in};
+ghost use Rattle.frame_pass.specs.PlainRegisters.{AreLeft};
+ghost use Rattle.visit_laws.specs.Drift.{IsDrift, time_in, first_behind, AreOthersThan};
 ghost use Rattle.visit_laws.specs.ReceiveTimes.{IsReceiveTime, IsBefore, AreReceiveTimes};
 
 /// A frame with a datagram that makes a measuring slave latch leaves in its receive times what the clock of its history
@@ -57,4 +58,31 @@ pub fn drift_at_slave()
     ensures addressed { (s : Slave) (d : DatagramValue) → IsDrift d → (d.head.adp == station s.registers) ≡ true → (slave_after s d ≡ s) × (events_by s d ≡ []) }
     ensures refused { (s : Slave) (d : DatagramValue) → is_refused_by s d ≡ true → (slave_after s d ≡ s) × (events_by s d ≡ []) × ((datagram_after s d).payload ≡ d.payload) }
     ensures kinds { (is_refused ClockKind.None 0x0910 4 ≡ true) × (is_refused ClockKind.R32 0x0910 4 ≡ true) × (is_refused ClockKind.C32 0x0910 4 ≡ false) × (is_refused ClockKind.C64 0x0910 4 ≡ false) }
+{}
+
+/// What a drift frame brings a slave, whose other datagrams write neither the system time nor the speed: one difference at
+/// its arrival, by the system time at that instant, where the slave is not the addressed one, and there nothing. Any frame
+/// none of whose datagrams writes these brings nothing.
+pub fn drift_frames()
+    ensures receives { (sent : ℕ) (s : Slave) (m : Timing) (d : DatagramValue) (ds : List DatagramValue) → length s.registers.bytes ≡ 4096 → s.timing ≡ Some m
+        → m.clock.instant ≤ sent + s.visits.arrive → IsDrift d → is_refused_by s d ≡ false → (d.head.adp == station s.registers) ≡ false
+        → AreLeft 0x0910 4 (slave_after (at_arrival sent s) d) ds → AreLeft 0x0930 2 (slave_after (at_arrival sent s) d) ds
+        → events_passed sent s (d ∷ ds)
+        ≡ record { instant = sent + s.visits.arrive; event = received (difference (measuring_at (sent + s.visits.arrive) (record { registers = s.registers; timing = m })) (time_in d)) } ∷ [] }
+    ensures addressed { (sent : ℕ) (s : Slave) (d : DatagramValue) (ds : List DatagramValue) → length s.registers.bytes ≡ 4096 → IsDrift d → (d.head.adp == station s.registers) ≡ true
+        → AreLeft 0x0910 4 (at_arrival sent s) ds → AreLeft 0x0930 2 (at_arrival sent s) ds → events_passed sent s (d ∷ ds) ≡ [] }
+    ensures quiet { (sent : ℕ) (s : Slave) (ds : List DatagramValue) → AreLeft 0x0910 4 (at_arrival sent s) ds → AreLeft 0x0930 2 (at_arrival sent s) ds
+        → events_passed sent s ds ≡ [] }
+{}
+
+/// What the datagram of a drift frame, which is the first of its frame, brings behind h slaves, of which the one at position
+/// q is addressed and no other: the low half of that slave's system time at its own arrival.
+pub fn drift_is_carried()
+    ensures first { (h sent : ℕ) (ss : List Slave) (d : DatagramValue) (ds : List DatagramValue) → slice_get (datagrams_behind h sent ss (d ∷ ds)) 0 ≡ Some (first_behind h sent ss d) }
+    ensures time { (h sent q : ℕ) (ss : List Slave) (d : DatagramValue) (s : Slave) (m : Timing) → q < h → slice_get ss q ≡ Some s → s.timing ≡ Some m → length s.registers.bytes ≡ 4096
+        → IsDrift d → is_refused_by s d ≡ false → (d.head.adp == station s.registers) ≡ true → AreOthersThan q d.head.adp h ss
+        → time_in (first_behind h sent ss d) ≡ system_time (measuring_at (sent + s.visits.arrive) (record { registers = s.registers; timing = m })) % 2 ^ 32 }
+    ensures same { (h sent q : ℕ) (ss : List Slave) (d : DatagramValue) (s : Slave) (m : Timing) → q < h → slice_get ss q ≡ Some s → s.timing ≡ Some m → length s.registers.bytes ≡ 4096
+        → IsDrift d → is_refused_by s d ≡ false → (d.head.adp == station s.registers) ≡ true → AreOthersThan q d.head.adp h ss
+        → IsDrift (first_behind h sent ss d) × ((first_behind h sent ss d).head.adp ≡ d.head.adp) }
 {}
