@@ -4,3 +4,4 @@ pub mod Latching
 pub mod Ports
 pub mod DataRead
 pub mod Drifting
+pub mod Counting

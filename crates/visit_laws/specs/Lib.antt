@@ -1,2 +1,3 @@
 pub mod ReceiveTimes
 pub mod Drift
+pub mod Counters

@@ -1,7 +1,9 @@
 //! Laws over the definitions alone, for proofs of the layers above.
 
-ghost use Rattle.std.specs.Prelude.{◌≡◌, ℕ, ◌+◌, ◌%◌, ◌^◌, ◌≤◌, ◌<◌, ◌==◌, List, [], ◌∷◌, ◌++◌, length, true, false, Option, Some, slice_get};
+ghost use Rattle.std.specs.Prelude.{◌≡◌, ◌≢◌, ◌⊎◌, ℕ, ◌+◌, ◌%◌, ◌^◌, ◌≤◌, ◌<◌, ◌==◌, List, [], ◌∷◌, ◌++◌, length, true, false, Option, Some, slice_get, option_map, take};
+ghost use Rattle.std.specs.List.{sum_by};
 ghost use Rattle.ecat_frame.specs.FrameGrammar.{DatagramValue};
+ghost use Rattle.ecat_frame.specs.declared.command.Command.TheVariants.{Fprd, Fpwr};
 ghost use Rattle.osc_clock.specs.Ticks.{IsRunning};
 ghost use Rattle.local_clock.specs.Reading.{Clock, Happening, received, reading_at};
 ghost use Rattle.frame_pass.specs.SlaveState.{Slave, Timing, holds, station};
@@ -10,12 +12,13 @@ ghost use Rattle.esc_regs.specs.RegisterAccess.{is_refused};
 ghost use Rattle.esc_regs.specs.declared.clock_kind.ClockKind.TheVariants as ClockKind;
 ghost use Rattle.frame_pass.specs.LiveRegisters.{system_time};
 ghost use Rattle.frame_pass.specs.WriteEffects.{difference};
-ghost use Rattle.frame_pass.specs.DatagramTable.{reads, merges};
+ghost use Rattle.frame_pass.specs.DatagramTable.{Passes, Reads, Writes, reads, merges, gain, raises_adp, raised_by};
 ghost use Rattle.frame_pass.specs.DatagramAtSlave.{is_refused_by, doing, datagram_after, slave_after};
 ghost use Rattle.frame_pass.specs.Advancing.{advanced_to, measuring_at};
-ghost use Rattle.frame_pass.specs.FramePass.{slave_passed, datagrams_behind, are_latching, at_arrival};
+ghost use Rattle.frame_pass.specs.FramePass.{slave_passed, datagrams_after, datagrams_behind, are_latching, at_arrival};
 ghost use Rattle.frame_pass.specs.ClockHistory.{HasHistory, events_by, events_passed};
 ghost use Rattle.frame_pass.specs.PlainRegisters.{AreLeft};
+ghost use Rattle.visit_laws.specs.Counters.{slave_before, doing_in, gains, AreDoing};
 ghost use Rattle.visit_laws.specs.Drift.{IsDrift, time_in, first_behind, AreOthersThan};
 ghost use Rattle.visit_laws.specs.ReceiveTimes.{IsReceiveTime, IsBefore, AreReceiveTimes};
 
@@ -85,4 +88,36 @@ pub fn drift_is_carried()
     ensures same { (h sent q : ℕ) (ss : List Slave) (d : DatagramValue) (s : Slave) (m : Timing) → q < h → slice_get ss q ≡ Some s → s.timing ≡ Some m → length s.registers.bytes ≡ 4096
         → IsDrift d → is_refused_by s d ≡ false → (d.head.adp == station s.registers) ≡ true → AreOthersThan q d.head.adp h ss
         → IsDrift (first_behind h sent ss d) × ((first_behind h sent ss d).head.adp ≡ d.head.adp) }
+{}
+
+/// Datagram k of a frame behind the first h slaves. Its command, index and ADO are as they were; its ADP is h more in 16
+/// bits where the command raises it, and else as it was; its working counter is the sum of what each slave gains more; its
+/// data are those behind the first j slaves, where no later one reads.
+pub fn datagrams_on_their_way()
+    ensures at { (k : ℕ) (s : Slave) (ds : List DatagramValue) → slice_get (datagrams_after s ds) k ≡ option_map (datagram_after (slave_before k s ds)) (slice_get ds k) }
+    ensures same { (k h sent : ℕ) (ss : List Slave) (ds : List DatagramValue) (d e : DatagramValue) → slice_get ds k ≡ Some d → slice_get (datagrams_behind h sent ss ds) k ≡ Some e
+        → (e.head.command ≡ d.head.command) × (e.head.index ≡ d.head.index) × (e.head.ado ≡ d.head.ado) }
+    ensures raised { (k h sent : ℕ) (ss : List Slave) (ds : List DatagramValue) (d e : DatagramValue) → slice_get ds k ≡ Some d → slice_get (datagrams_behind h sent ss ds) k ≡ Some e
+        → h ≤ length ss → d.head.adp < 2 ^ 16 → raises_adp d.head.command ≡ true → e.head.adp ≡ raised_by h d.head.adp }
+    ensures kept { (k h sent : ℕ) (ss : List Slave) (ds : List DatagramValue) (d e : DatagramValue) → slice_get ds k ≡ Some d → slice_get (datagrams_behind h sent ss ds) k ≡ Some e
+        → raises_adp d.head.command ≡ false → e.head.adp ≡ d.head.adp }
+    ensures counter { (k h sent : ℕ) (ss : List Slave) (ds : List DatagramValue) (d e : DatagramValue) → slice_get ds k ≡ Some d → slice_get (datagrams_behind h sent ss ds) k ≡ Some e
+        → d.wkc < 2 ^ 16 → e.wkc ≡ raised_by (gains k h sent ss ds) d.wkc }
+    ensures data { (k j h sent : ℕ) (ss : List Slave) (ds : List DatagramValue) (d e : DatagramValue) → j ≤ h → slice_get (datagrams_behind j sent ss ds) k ≡ Some d
+        → slice_get (datagrams_behind h sent ss ds) k ≡ Some e → AreDoing (λ x. reads x ≡ false) k j h sent ss ds → e.payload ≡ d.payload }
+{}
+
+/// What counters gain. It is the sum of what each slave is told to gain. Where one slave alone does not pass a datagram on, it is what that slave gains; FPRD and FPWR are
+/// passed on by every slave of another station address, and read or written by one of that address that does not refuse.
+pub fn counters()
+    ensures sum { (k h sent : ℕ) (g : Slave → ℕ) (ss : List Slave) (ds : List DatagramValue)
+        → ((i : ℕ) (s : Slave) → i < h → slice_get ss i ≡ Some s → gain (doing_in k (at_arrival sent s) (datagrams_behind i sent ss ds)) ≡ g s)
+        → gains k h sent ss ds ≡ sum_by g (take h ss) }
+    ensures one { (k h sent q : ℕ) (ss : List Slave) (ds : List DatagramValue) (s : Slave) → q < h → slice_get ss q ≡ Some s
+        → ((i : ℕ) (v : Slave) → i < h → slice_get ss i ≡ Some v → i ≢ q → doing_in k (at_arrival sent v) (datagrams_behind i sent ss ds) ≡ Passes)
+        → gains k h sent ss ds ≡ gain (doing_in k (at_arrival sent s) (datagrams_behind q sent ss ds)) }
+    ensures other { (s : Slave) (d : DatagramValue) → (d.head.command ≡ Fprd) ⊎ (d.head.command ≡ Fpwr) → (d.head.adp == station s.registers) ≡ false → doing s d ≡ Passes }
+    ensures read { (s : Slave) (d : DatagramValue) → d.head.command ≡ Fprd → is_refused_by s d ≡ false → (d.head.adp == station s.registers) ≡ true → doing s d ≡ Reads }
+    ensures written { (s : Slave) (d : DatagramValue) → d.head.command ≡ Fpwr → is_refused_by s d ≡ false → (d.head.adp == station s.registers) ≡ true → doing s d ≡ Writes }
+    ensures refused { (s : Slave) (d : DatagramValue) → is_refused_by s d ≡ true → doing s d ≡ Passes }
 {}
