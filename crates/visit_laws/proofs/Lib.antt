@@ -5,3 +5,4 @@ pub mod Ports
 pub mod DataRead
 pub mod Drifting
 pub mod Counting
+pub mod Copying

@@ -37,7 +37,7 @@ pub record Goes (x : Told) (t : ℕ) (s : Slave) : Type 0 where
 abbrev pub reading_of : Told → ℕ → ℕ
 reading_of x t = reading_at x.bits x.clock x.events t
 
-goes_of : (x : Told) (t : ℕ) (s : Slave) (m : Timing) → s.timing ≡ Some m → HasSize s.registers → m.clock.instant ≤ t → HasHistory x.bits x.clock x.events s → Goes x t s
+pub goes_of : (x : Told) (t : ℕ) (s : Slave) (m : Timing) → s.timing ≡ Some m → HasSize s.registers → m.clock.instant ≤ t → HasHistory x.bits x.clock x.events s → Goes x t s
 goes_of x t s m e size early h = record { timing = m; is = e; size = size; early = early; history = (rw e at h) }
 
 later : (x : Told) (t u : ℕ) (s : Slave) → t ≤ u → Goes x t s → Goes x u s
@@ -207,7 +207,7 @@ goes_behind w c es sent s m ds run e size early h =
       reading = ap (λ c. c.reading) clock;
     }
 
-same_timing : (o : Option Timing) (m n : Timing) → o ≡ Some m → o ≡ Some n → m ≡ n
+pub same_timing : (o : Option Timing) (m n : Timing) → o ≡ Some m → o ≡ Some n → m ≡ n
 same_timing o m n e f = let z : Some m ≡ Some n = sym e ∙ f in cc
 
 pub latched_passed : (w : ℕ) (c : Clock) (es : List Happening) (sent : ℕ) (end : Option ℕ) (s : Slave) (m : Timing) (ds : List DatagramValue) → IsRunning c.osc

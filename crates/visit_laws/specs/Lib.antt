@@ -1,3 +1,4 @@
 pub mod ReceiveTimes
 pub mod Drift
 pub mod Counters
+pub mod Copies

@@ -18,6 +18,9 @@ ghost use Rattle.frame_pass.specs.Advancing.{advanced_to, measuring_at};
 ghost use Rattle.frame_pass.specs.FramePass.{slave_passed, datagrams_after, datagrams_behind, are_latching, at_arrival};
 ghost use Rattle.frame_pass.specs.ClockHistory.{HasHistory, events_by, events_passed};
 ghost use Rattle.frame_pass.specs.PlainRegisters.{AreLeft};
+ghost use Rattle.sync_units.specs.Calls.{Call};
+ghost use Rattle.frame_pass.specs.UnitHistory.{calls_to, calls_passed};
+ghost use Rattle.visit_laws.specs.Copies.{HasCopies, time_at};
 ghost use Rattle.visit_laws.specs.Counters.{slave_before, doing_in, gains, AreDoing};
 ghost use Rattle.visit_laws.specs.Drift.{IsDrift, time_in, first_behind, AreOthersThan};
 ghost use Rattle.visit_laws.specs.ReceiveTimes.{IsReceiveTime, IsBefore, AreReceiveTimes};
@@ -120,4 +123,23 @@ pub fn counters()
     ensures read { (s : Slave) (d : DatagramValue) → d.head.command ≡ Fprd → is_refused_by s d ≡ false → (d.head.adp == station s.registers) ≡ true → doing s d ≡ Reads }
     ensures written { (s : Slave) (d : DatagramValue) → d.head.command ≡ Fpwr → is_refused_by s d ≡ false → (d.head.adp == station s.registers) ≡ true → doing s d ≡ Writes }
     ensures refused { (s : Slave) (d : DatagramValue) → is_refused_by s d ≡ true → doing s d ≡ Passes }
+{}
+
+/// The local copies at the ticks of a unit's calls are those of the clock's history with the held offset, while no frame
+/// writes the offset: from a start on, over frames, and as time goes on.
+pub fn copies_by_history()
+    ensures start { (w : ℕ) (c : Clock) (events : List Happening) (s : Slave) (m : Timing) → s.timing ≡ Some m → HasCopies w c events m.clock.instant [] s }
+    ensures frame { (w : ℕ) (c : Clock) (events : List Happening) (start : ℕ) (calls : List Call) (sent : ℕ) (end : Option ℕ) (s : Slave) (m : Timing) (ds : List DatagramValue) → IsRunning c.osc
+        → s.timing ≡ Some m → length s.registers.bytes ≡ 4096 → m.clock.instant ≤ sent + s.visits.arrive → AreLeft 0x0920 8 (at_arrival sent s) ds
+        → HasHistory w c events s → HasCopies w c events start calls s
+        → HasCopies w c (events ++ events_passed sent s ds) start (calls ++ calls_passed sent end s ds) (slave_passed sent end s ds) }
+    ensures time { (w : ℕ) (c : Clock) (events : List Happening) (start : ℕ) (calls : List Call) (t : ℕ) (s : Slave) (m : Timing) → IsRunning c.osc → s.timing ≡ Some m
+        → length s.registers.bytes ≡ 4096 → HasHistory w c events s → HasCopies w c events start calls s → HasCopies w c events start (calls ++ calls_to t s) (advanced_to t s) }
+{}
+
+/// The system time of a slave at an instant: the local time of the clock's history, the held offset, and less the held delay.
+pub fn system_times()
+    ensures { (w : ℕ) (c : Clock) (events : List Happening) (t : ℕ) (s : Slave) (m : Timing) → IsRunning c.osc → s.timing ≡ Some m → length s.registers.bytes ≡ 4096
+        → m.clock.instant ≤ t → HasHistory w c events s
+        → system_time (measuring_at t (record { registers = s.registers; timing = m })) ≡ time_at w c events s t }
 {}
