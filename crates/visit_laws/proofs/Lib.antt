@@ -6,3 +6,4 @@ pub mod DataRead
 pub mod Drifting
 pub mod Counting
 pub mod Copying
+pub mod Arming

@@ -2,3 +2,4 @@ pub mod ReceiveTimes
 pub mod Drift
 pub mod Counters
 pub mod Copies
+pub mod Arming

@@ -1,25 +1,27 @@
 //! Laws over the definitions alone, for proofs of the layers above.
 
-ghost use Rattle.std.specs.Prelude.{◌≡◌, ◌≢◌, ◌⊎◌, ℕ, ◌+◌, ◌%◌, ◌^◌, ◌≤◌, ◌<◌, ◌==◌, List, [], ◌∷◌, ◌++◌, length, true, false, Option, Some, slice_get, option_map, take};
+ghost use Rattle.std.specs.Prelude.{◌≡◌, ◌≢◌, ◌⊎◌, ℕ, ◌+◌, ◌%◌, ◌^◌, ◌≤◌, ◌<◌, ◌==◌, List, [], ◌∷◌, ◌++◌, length, true, false, Option, Some, None, IfSome, slice_get, option_map, take};
 ghost use Rattle.std.specs.List.{sum_by};
 ghost use Rattle.ecat_frame.specs.FrameGrammar.{DatagramValue};
 ghost use Rattle.ecat_frame.specs.declared.command.Command.TheVariants.{Fprd, Fpwr};
 ghost use Rattle.osc_clock.specs.Ticks.{IsRunning};
 ghost use Rattle.local_clock.specs.Reading.{Clock, Happening, received, reading_at};
-ghost use Rattle.frame_pass.specs.SlaveState.{Slave, Timing, holds, station};
+ghost use Rattle.frame_pass.specs.SlaveState.{Slave, Timing, holds, station, width};
 ghost use Rattle.esc_regs.specs.RegisterBytes.{number_at, AreApart};
 ghost use Rattle.esc_regs.specs.RegisterAccess.{is_refused};
 ghost use Rattle.esc_regs.specs.declared.clock_kind.ClockKind.TheVariants as ClockKind;
 ghost use Rattle.frame_pass.specs.LiveRegisters.{system_time};
-ghost use Rattle.frame_pass.specs.WriteEffects.{difference};
+ghost use Rattle.frame_pass.specs.WriteEffects.{difference, arms};
 ghost use Rattle.frame_pass.specs.DatagramTable.{Passes, Reads, Writes, reads, merges, gain, raises_adp, raised_by};
 ghost use Rattle.frame_pass.specs.DatagramAtSlave.{is_refused_by, doing, datagram_after, slave_after};
 ghost use Rattle.frame_pass.specs.Advancing.{advanced_to, measuring_at};
-ghost use Rattle.frame_pass.specs.FramePass.{slave_passed, datagrams_after, datagrams_behind, are_latching, at_arrival};
+ghost use Rattle.frame_pass.specs.FramePass.{slave_behind, slave_passed, datagrams_after, datagrams_behind, are_latching, at_arrival};
 ghost use Rattle.frame_pass.specs.ClockHistory.{HasHistory, events_by, events_passed};
 ghost use Rattle.frame_pass.specs.PlainRegisters.{AreLeft};
 ghost use Rattle.sync_units.specs.Calls.{Call};
-ghost use Rattle.frame_pass.specs.UnitHistory.{calls_to, calls_passed};
+ghost use Rattle.frame_pass.specs.UnitHistory.{calls_to, calls_passed, are_activating, HasRun};
+ghost use Rattle.sync_units.specs.KeptEdges.{empty_list};
+ghost use Rattle.visit_laws.specs.Arming.{armed_from, Activates};
 ghost use Rattle.visit_laws.specs.Copies.{HasCopies, time_at};
 ghost use Rattle.visit_laws.specs.Counters.{slave_before, doing_in, gains, AreDoing};
 ghost use Rattle.visit_laws.specs.Drift.{IsDrift, time_in, first_behind, AreOthersThan};
@@ -142,4 +144,20 @@ pub fn system_times()
     ensures { (w : ℕ) (c : Clock) (events : List Happening) (t : ℕ) (s : Slave) (m : Timing) → IsRunning c.osc → s.timing ≡ Some m → length s.registers.bytes ≡ 4096
         → m.clock.instant ≤ t → HasHistory w c events s
         → system_time (measuring_at t (record { registers = s.registers; timing = m })) ≡ time_at w c events s t }
+{}
+
+/// A write of the activation arms the unit by the registers as they then stand, and clears the kept edges, or disarms it,
+/// and leaves them. A frame that does not latch, whose last write of the activation arms, leaves the unit so at its arrival:
+/// from there its calls run.
+pub fn arming()
+    ensures arms { (byte : ℕ) (s : Slave) (m : Timing) (d : DatagramValue) → s.timing ≡ Some m → Activates byte s d → arms byte (slave_after s d).registers ≡ true
+        → IfSome (slave_after s d).timing (λ n. (n.unit ≡ Some (armed_from byte (slave_after s d).registers)) × (n.edges ≡ empty_list m.edges.keep)) }
+    ensures disarms { (byte : ℕ) (s : Slave) (m : Timing) (d : DatagramValue) → s.timing ≡ Some m → Activates byte s d → arms byte (slave_after s d).registers ≡ false
+        → IfSome (slave_after s d).timing (λ n. (n.unit ≡ None) × (n.edges ≡ m.edges)) }
+    ensures frame { (byte sent : ℕ) (end : Option ℕ) (s : Slave) (m : Timing) (before : List DatagramValue) (d : DatagramValue) (later : List DatagramValue) → s.timing ≡ Some m
+        → length s.registers.bytes ≡ 4096 → m.clock.instant ≤ sent + s.visits.arrive → are_latching (at_arrival sent s) (before ++ d ∷ later) ≡ false
+        → Activates byte (slave_behind (at_arrival sent s) before) d → are_activating (slave_after (slave_behind (at_arrival sent s) before) d) later ≡ false
+        → arms byte (slave_after (slave_behind (at_arrival sent s) before) d).registers ≡ true
+        → HasRun (width s.registers.kind) m.clock.osc (sent + s.visits.arrive) (Some (armed_from byte (slave_after (slave_behind (at_arrival sent s) before) d).registers)) (empty_list m.edges.keep) []
+        (slave_passed sent end s (before ++ d ∷ later)) }
 {}
