@@ -1,5 +1,5 @@
 -- A unit that a datagram arms.
-use Rattle.std.proofs.Common.{◌≡◌, ℕ, ◌+◌, ◌≤◌, List, [], ◌∷◌, ◌++◌, Option, Some, None, Bool, true, false, ◌&&◌, ◌||◌, refl, sym, ap, ap₂, subst, ◌∙◌, arith}
+use Rattle.std.proofs.Common.{◌≡◌, ℕ, ◌+◌, ◌≤◌, List, [], ◌∷◌, ◌++◌, Option, Some, None, Bool, true, false, ◌||◌, refl, sym, ap, subst, ◌∙◌}
 use Rattle.std.specs.Prelude.{IfSome, option_map}
 use Rattle.std.specs.Option.{is_some}
 use Rattle.ecat_frame.specs.FrameGrammar.{DatagramValue}
@@ -7,23 +7,22 @@ use Rattle.sync_units.specs.SyncRule.{Armed}
 use Rattle.sync_units.specs.KeptEdges.{Kept, empty_list}
 use Rattle.osc_clock.specs.Ticks.{Oscillator}
 use Rattle.esc_regs.specs.declared.answers.Written.{Written}
-use Rattle.esc_regs.specs.RegisterFile.{Registers}
 use Rattle.esc_regs.specs.RegisterWrite.{written, told}
 use Rattle.frame_pass.specs.SlaveState.{Timing, Measuring, Slave, FixedPart, fixed_part, width}
 use Rattle.frame_pass.specs.Advancing.{measuring_at}
-use Rattle.frame_pass.specs.WriteEffects.{latched, compared, reset_by, activated, affected, wrote, arms}
+use Rattle.frame_pass.specs.WriteEffects.{latched, compared, reset_by, activated, wrote, arms}
 use Rattle.frame_pass.specs.DatagramTable.{writes}
 use Rattle.frame_pass.specs.DatagramAtSlave.{doing, slave_after}
 use Rattle.frame_pass.specs.FramePass.{slave_behind, slave_passed, are_latching, at_arrival}
 use Rattle.frame_pass.specs.UnitHistory.{is_activating, are_activating, HasRun}
 use Rattle.frame_pass.proofs.AtPositions.{not_latching}
 use Rattle.frame_pass.proofs.Fixed.{fixed_passed}
-use Rattle.frame_pass.proofs.Sizes.{HasSize, size_written}
+use Rattle.frame_pass.proofs.Sizes.{HasSize}
 use Rattle.visit_laws.specs.Arming.{armed_from, Activates}
 use Rattle.visit_laws.proofs.Effects.{size_advanced}
 use Rattle.visit_laws.proofs.Latching.{Stands, stands_behind}
-use Rattle.visit_laws.proofs.Ports.{passed_behind, same_timing, there}
-use Rattle.visit_laws.proofs.Drifting.{timing_advanced, registers_advanced}
+use Rattle.visit_laws.proofs.Ports.{passed_behind, there}
+use Rattle.visit_laws.proofs.Drifting.{timing_advanced}
 
 -- a measuring slave with this unit and these edges
 pub record HasUnit (u : Option Armed) (l : Kept) (m : Timing) : Type 0 where

@@ -1,39 +1,37 @@
 -- The local copies of calls are those of the history.
-use Rattle.std.proofs.Common.{◌≡◌, ℕ, zero, suc, ◌+◌, ◌-◌, ◌%◌, ◌^◌, ◌<◌, ◌≤◌, ◌⊎◌, List, [], ◌∷◌, ◌++◌, length, Option, Some, None, Bool, true, false, nat_le, refl, sym, ap, ap₂, subst, ◌∙◌, arith, append_assoc, inl, inr}
-use Rattle.std.specs.Prelude.{IfSome, if◌then◌else◌, ⊤}
+use Rattle.std.proofs.Common.{◌≡◌, ℕ, ◌+◌, ◌-◌, ◌%◌, ◌^◌, ◌<◌, ◌≤◌, ◌⊎◌, List, [], ◌∷◌, ◌++◌, length, Option, Some, None, Bool, true, false, nat_le, refl, sym, ap, ap₂, subst, ◌∙◌, arith, append_assoc, inl, inr}
+use Rattle.std.specs.Prelude.{if◌then◌else◌, ⊤}
 use Rattle.std.proofs.lemmas.Bool.{cases_lt}
-use Rattle.std.proofs.lemmas.Bool.Decides.{nat_tests}
 use Rattle.std.proofs.lemmas.List.{append-nil}
 use Rattle.ecat_frame.specs.FrameGrammar.{DatagramValue}
 use Rattle.osc_clock.specs.Ticks.{Oscillator, IsRunning, ticks, instant}
 use Rattle.osc_clock.proofs.TickLaws.{reached, not_after, ticks_rise}
 use Rattle.local_clock.specs.FirstReaching.{tick_after}
-use Rattle.local_clock.specs.Reading.{Clock, Happening, advanced, clock_at, reading_at, reading_after, ticks_to, AreInOrder, AreUntil}
+use Rattle.local_clock.specs.Reading.{Clock, Happening, advanced, clock_at, reading_at, reading_after, ticks_to, AreInOrder}
 use Rattle.local_clock.proofs.History.{in_turn, stands, not_yet, is_until, is_after}
 use Rattle.local_clock.proofs.ManyTicks.{ticks_to_tick}
 use Rattle.sync_units.specs.ClockCopy.{copy_after}
 use Rattle.sync_units.specs.Calls.{Call, AreInTurn, end_of, ticks_of_calls, copy_in}
 use Rattle.esc_regs.specs.declared.answers.Written.{Written}
-use Rattle.esc_regs.specs.RegisterFile.{Registers}
 use Rattle.esc_regs.specs.RegisterWrite.{written, told}
-use Rattle.frame_pass.specs.SlaveState.{Timing, Measuring, Slave, width, width_of, holds, offset, delay, on_measuring}
+use Rattle.frame_pass.specs.SlaveState.{Timing, Measuring, Slave, width, holds, offset, delay, on_measuring}
 use Rattle.frame_pass.specs.LiveRegisters.{system_time}
 use Rattle.frame_pass.specs.WriteEffects.{latched}
-use Rattle.frame_pass.specs.Advancing.{advanced_to, measuring_at, ticked_to}
+use Rattle.frame_pass.specs.Advancing.{advanced_to, measuring_at}
 use Rattle.frame_pass.specs.DatagramTable.{writes}
 use Rattle.frame_pass.specs.DatagramAtSlave.{doing, slave_after}
 use Rattle.frame_pass.specs.FramePass.{slave_behind, port_latched, port_taken, ports_taken, comes_by, at_arrival, are_latching, slave_passed}
-use Rattle.frame_pass.specs.ClockHistory.{IsOf, HasHistory, received_of, reset_of, events_told, events_on, events_wrote, events_by, events_in, events_passed}
-use Rattle.frame_pass.specs.UnitHistory.{calls_until, calls_on, calls_to, calls_of_port, calls_of_ports, calls_passed}
+use Rattle.frame_pass.specs.ClockHistory.{IsOf, HasHistory, received_of, reset_of, events_told, events_wrote, events_by, events_in, events_passed}
+use Rattle.frame_pass.specs.UnitHistory.{calls_until, calls_to, calls_of_port, calls_of_ports, calls_passed}
 use Rattle.frame_pass.specs.PlainRegisters.{IsPlain, AreLeft}
 use Rattle.frame_pass.proofs.Fixed.{fixed_advanced, fixed_passed}
 use Rattle.frame_pass.proofs.Plain.{plain_datagram}
 use Rattle.frame_pass.proofs.Sizes.{HasSize, size_holding}
 use Rattle.esc_regs.proofs.Storing.{untouched}
 use Rattle.visit_laws.specs.Copies.{copy_at, time_at, HasCopies}
-use Rattle.visit_laws.proofs.Effects.{left_holding, left_advanced, size_advanced}
+use Rattle.visit_laws.proofs.Effects.{left_holding, left_advanced}
 use Rattle.visit_laws.proofs.Latching.{Stands, stands_after, stands_behind, size_after}
-use Rattle.visit_laws.proofs.Ports.{Told, Goes, Is, reading_of, goes_of, is_advanced, goes_behind, passed_behind, same_timing}
+use Rattle.visit_laws.proofs.Ports.{Told, Goes, Is, goes_of, is_advanced, goes_behind, passed_behind, same_timing}
 use Rattle.visit_laws.proofs.Drifting.{timing_advanced, registers_advanced}
 
 -- calls in turn lead on
@@ -111,8 +109,8 @@ tick_reading x m j run some h =
     let t = instant o (ticks o p + j) in
     let osc = osc_of x p m h in
     let late : p ≤ t = elim (cases_lt t p) [
-    | inl early ↦ absurd (let few = reached o p (ticks o p + j) run (omega (arith, early)) in omega (arith, few, some))
-    | inr le ↦ le
+      | inl early ↦ absurd (let few = reached o p (ticks o p + j) run (omega (arith, early)) in omega (arith, few, some))
+      | inr le ↦ le
     ] in
     let same : tick_after m.timing.clock j ≡ t = rw osc refl in
     let count : ticks_to m.timing.clock t ≡ j = ap (ticks_to m.timing.clock) (sym same) ∙ ticks_to_tick m.timing.clock j (rw osc run) in
@@ -136,26 +134,26 @@ calls_at t s m e = rw e refl
 
 pub copies_advanced : (x : Told) (off start : ℕ) (cs : List Call) (t : ℕ) (s : Slave) → IsRunning x.clock.osc → Copies x off start cs s → Copies x off start (cs ++ calls_to t s) (advanced_to t s)
 copies_advanced x off start cs t s run h = elim (cases_lt t p) [
-    | inl late ↦
-        let none : calls_to t s ≡ [] = calls_at t s h.timing h.is ∙ rw (is_after p t late) refl in
-        subst (λ v. Copies x off start (cs ++ calls_to t s) v) (sym (unmoved t s h.timing h.is late))
-        (subst (λ es. Copies x off start es s) (sym (ap (λ es. cs ++ es) none ∙ append-nil cs)) h)
-    | inr early ↦
-        let k = is_advanced x t s run (goes_in x off start cs s t h early) in
-        let osc = osc_of x p (record { registers = s.registers; timing = h.timing }) h.history in
-        let one : calls_to t s ≡ c ∷ [] = calls_at t s h.timing h.is ∙ rw (is_until p t early) refl in
-        let at = k.instant in
-        subst (λ es. Copies x off start (cs ++ es) (advanced_to t s)) (sym one) (record {
-          timing = k.goes.timing;
-          is = k.goes.is;
-          size = k.goes.size;
-          history = k.goes.history;
-          offset_is = same_offset t s h.size ∙ h.offset_is;
-          in_turn = turn_more x.clock.osc start cs c h.in_turn osc (sym h.end) (omega (arith, h.end, early));
-          end = end_more start cs c ∙ sym at;
-          copies = λ j some few. of osc early j some few;
-        })
-  ]
+  | inl late ↦
+      let none : calls_to t s ≡ [] = calls_at t s h.timing h.is ∙ rw (is_after p t late) refl in
+      subst (λ v. Copies x off start (cs ++ calls_to t s) v) (sym (unmoved t s h.timing h.is late))
+      (subst (λ es. Copies x off start es s) (sym (ap (λ es. cs ++ es) none ∙ append-nil cs)) h)
+  | inr early ↦
+      let k = is_advanced x t s run (goes_in x off start cs s t h early) in
+      let osc = osc_of x p (record { registers = s.registers; timing = h.timing }) h.history in
+      let one : calls_to t s ≡ c ∷ [] = calls_at t s h.timing h.is ∙ rw (is_until p t early) refl in
+      let at = k.instant in
+      subst (λ es. Copies x off start (cs ++ es) (advanced_to t s)) (sym one) (record {
+        timing = k.goes.timing;
+        is = k.goes.is;
+        size = k.goes.size;
+        history = k.goes.history;
+        offset_is = same_offset t s h.size ∙ h.offset_is;
+        in_turn = turn_more x.clock.osc start cs c h.in_turn osc (sym h.end) (omega (arith, h.end, early));
+        end = end_more start cs c ∙ sym at;
+        copies = λ j some few. of osc early j some few;
+      })
+]
   where
     p : ℕ
     p = h.timing.clock.instant
@@ -252,15 +250,15 @@ pub copies_behind : (w : ℕ) (c : Clock) (es : List Happening) (off start : ℕ
     → m.clock.instant ≤ sent + s.visits.arrive → AreLeft 0x0920 8 (at_arrival sent s) ds → Copies (record { bits = w; clock = c; events = es }) off start cs s
     → Copies (record { bits = w; clock = c; events = es ++ events_passed sent s ds }) off start (cs ++ calls_to (sent + s.visits.arrive) s) (slave_behind (at_arrival sent s) ds)
 copies_behind w c es off start cs sent s m ds run e early far h = record {
-    timing = k.goes.timing;
-    is = k.goes.is;
-    size = k.goes.size;
-    history = k.goes.history;
-    offset_is = same ∙ first.offset_is;
-    in_turn = first.in_turn;
-    end = first.end ∙ stood ∙ sym k.instant;
-    copies = λ j some few. first.copies j some few ∙ ap (λ r. (r + off) % 2 ^ w) (sym (unchanged j some few));
-  }
+  timing = k.goes.timing;
+  is = k.goes.is;
+  size = k.goes.size;
+  history = k.goes.history;
+  offset_is = same ∙ first.offset_is;
+  in_turn = first.in_turn;
+  end = first.end ∙ stood ∙ sym k.instant;
+  copies = λ j some few. first.copies j some few ∙ ap (λ r. (r + off) % 2 ^ w) (sym (unchanged j some few));
+}
   where
     t : ℕ
     t = sent + s.visits.arrive

@@ -1,15 +1,13 @@
 -- A datagram on its way through slaves.
-use Rattle.std.proofs.Common.{◌≡◌, ℕ, zero, suc, ◌+◌, ◌%◌, ◌^◌, ◌<◌, ◌≤◌, ◌⊎◌, List, [], ◌∷◌, length, Option, Some, None, Bool, true, false, refl, sym, ap, ap₂, ◌∙◌, arith, inl, inr}
-use Rattle.std.specs.Prelude.{◌≢◌, ◌==◌, if◌then◌else◌, slice_get, option_map, take}
+use Rattle.std.proofs.Common.{◌≡◌, ℕ, zero, suc, ◌+◌, ◌^◌, ◌<◌, ◌≤◌, ◌⊎◌, List, [], ◌∷◌, length, Option, Some, Bool, true, false, refl, sym, ap, ap₂, ◌∙◌, arith, inl, inr}
+use Rattle.std.specs.Prelude.{◌≢◌, ◌==◌, slice_get, option_map, take}
 use Rattle.std.specs.List.{sum_by}
 use Rattle.std.proofs.lemmas.List.Sums.{sum_by-cons}
-use Rattle.std.proofs.lemmas.Bool.{cases_lt}
 use Rattle.ecat_frame.specs.FrameGrammar.{DatagramValue}
-use Rattle.ecat_frame.specs.declared.command.Command.{Command}
 use Rattle.ecat_frame.specs.declared.command.Command.TheVariants.{Fprd, Fpwr}
 use Rattle.frame_pass.specs.SlaveState.{Slave, station}
-use Rattle.frame_pass.specs.DatagramTable.{Doing, Passes, Reads, Writes, doing_by, reads, gain, raised_by, raises_adp}
-use Rattle.frame_pass.specs.DatagramAtSlave.{doing, is_refused_by, slave_after, datagram_after, payload_after, adp_after}
+use Rattle.frame_pass.specs.DatagramTable.{Passes, Reads, Writes, doing_by, reads, gain, raised_by, raises_adp}
+use Rattle.frame_pass.specs.DatagramAtSlave.{doing, is_refused_by, slave_after, datagram_after}
 use Rattle.frame_pass.specs.FramePass.{at_arrival, datagrams_after, datagrams_passed, datagrams_behind}
 use Rattle.visit_laws.specs.Counters.{slave_before, doing_for, doing_in, gains, AreDoing}
 use Rattle.visit_laws.proofs.Drifting.{kept_unread}

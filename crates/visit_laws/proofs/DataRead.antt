@@ -1,6 +1,5 @@
 -- What a datagram reads.
-use Rattle.std.proofs.Common.{◌≡◌, ℕ, ◌+◌, ◌-◌, ◌/◌, ◌%◌, ◌^◌, ◌<◌, ◌≤◌, ◌++◌, ◌⊎◌, List, [], ◌∷◌, length, drop, Option, Some, None, Bool, true, false, slice_index, slice_range, refl, sym, ap, ◌∙◌, arith, inl, inr}
-use Rattle.std.specs.Prelude.{if◌then◌else◌}
+use Rattle.std.proofs.Common.{◌≡◌, ℕ, ◌+◌, ◌%◌, ◌^◌, ◌≤◌, ◌++◌, List, length, drop, Option, Some, None, Bool, true, false, slice_index, slice_range, refl, ap, ◌∙◌, arith, inl, inr}
 use Rattle.std.proofs.lemmas.Grind.{common_steps}
 use Rattle.std.proofs.Math.Nat.{div-one}
 use Rattle.std.specs.Int.{bytes_low_first}
@@ -10,7 +9,6 @@ use Rattle.ecat_frame.specs.FrameGrammar.{DatagramValue}
 use Rattle.esc_regs.specs.declared.clock_kind.ClockKind.{ClockKind}
 use Rattle.esc_regs.specs.declared.live.Live.{Live}
 use Rattle.esc_regs.specs.RegisterBytes.{number_at, with_number, AreApart}
-use Rattle.esc_regs.specs.RegisterAccess.{is_refused}
 use Rattle.esc_regs.specs.RegisterFile.{Registers}
 use Rattle.esc_regs.specs.RegisterTable.{held}
 use Rattle.esc_regs.specs.ShownRegisters.{shown, showing}
@@ -20,8 +18,8 @@ use Rattle.esc_regs.proofs.Storing.{not_past}
 use Rattle.esc_regs.proofs.TableFacts.{held_all, held_few}
 use Rattle.frame_pass.specs.SlaveState.{Timing, Slave, holds}
 use Rattle.frame_pass.specs.LiveRegisters.{live, read_of, system_time}
-use Rattle.frame_pass.specs.DatagramTable.{Doing, reads, merges}
-use Rattle.frame_pass.specs.DatagramAtSlave.{is_refused_by, doing, data_with, payload_after, datagram_after}
+use Rattle.frame_pass.specs.DatagramTable.{reads, merges}
+use Rattle.frame_pass.specs.DatagramAtSlave.{is_refused_by, doing, payload_after, datagram_after}
 use Rattle.frame_pass.proofs.Sizes.{HasSize, size_shown}
 
 -- who reads is not refused

@@ -1,35 +1,32 @@
 -- What the datagram of a drift frame does at a slave.
-use Rattle.std.proofs.Common.{◌≡◌, ℕ, zero, suc, ◌+◌, ◌-◌, ◌%◌, ◌^◌, ◌<◌, ◌≤◌, ◌⊎◌, List, [], ◌∷◌, ◌++◌, length, Option, Some, None, Bool, true, false, ◌&&◌, ◌||◌, nat_le, refl, sym, ap, ap₂, ◌∙◌, arith, inl, inr}
-use Rattle.std.specs.Prelude.{if◌then◌else◌, ◌==◌, slice_get}
+use Rattle.std.proofs.Common.{◌≡◌, ℕ, zero, suc, ◌+◌, ◌%◌, ◌^◌, ◌<◌, ◌≤◌, List, [], ◌∷◌, ◌++◌, length, Option, Some, None, Bool, true, false, refl, sym, ap, ap₂, ◌∙◌, arith, inl, inr}
+use Rattle.std.specs.Prelude.{◌==◌, slice_get}
 use Rattle.std.proofs.lemmas.Bool.Decides.{nat_tests}
 use Rattle.std.proofs.lemmas.List.{append-nil}
 use Rattle.ecat_frame.specs.FrameGrammar.{DatagramValue}
-use Rattle.ecat_frame.specs.declared.command.Command.{Command}
 use Rattle.ecat_frame.specs.declared.command.Command.TheVariants.{Frmw}
 use Rattle.local_clock.specs.Reading.{Happening, received}
 use Rattle.esc_regs.specs.declared.answers.Access.TheVariants.{Done}
-use Rattle.esc_regs.specs.declared.answers.Written.{Written}
 use Rattle.esc_regs.specs.declared.clock_kind.ClockKind.{ClockKind}
 use Rattle.esc_regs.specs.RegisterBytes.{number_at, AreApart}
-use Rattle.esc_regs.specs.RegisterAccess.{is_refused, latches, received_by, rate_by, activation_by, covers, is_speed}
+use Rattle.esc_regs.specs.RegisterAccess.{is_refused, covers}
 use Rattle.esc_regs.specs.RegisterFile.{Registers}
-use Rattle.esc_regs.specs.RegisterWrite.{written, told, refusal}
+use Rattle.esc_regs.specs.RegisterWrite.{written, told}
 use Rattle.esc_regs.proofs.Storing.{untouched, written_kind}
-use Rattle.frame_pass.specs.SlaveState.{Timing, Measuring, Slave, holds, station, offset, delay, width, width_of}
-use Rattle.frame_pass.specs.LiveRegisters.{system_time, local_copy}
-use Rattle.frame_pass.specs.WriteEffects.{latched, wrote, difference}
+use Rattle.frame_pass.specs.SlaveState.{Timing, Measuring, Slave, holds, station}
+use Rattle.frame_pass.specs.LiveRegisters.{system_time}
+use Rattle.frame_pass.specs.WriteEffects.{latched, difference}
 use Rattle.frame_pass.specs.Advancing.{advanced_to, measuring_at}
-use Rattle.frame_pass.specs.DatagramTable.{Doing, Passes, Reads, Writes, doing_by, writes, reads, gain, raises_adp, merges}
-use Rattle.frame_pass.specs.DatagramAtSlave.{is_refused_by, asked, doing, slave_after, datagram_after, payload_after, adp_after}
-use Rattle.frame_pass.specs.FramePass.{slave_behind, datagrams_after, datagrams_passed, datagrams_behind, at_arrival}
-use Rattle.frame_pass.specs.ClockHistory.{events_on, events_wrote, events_by, events_in, events_passed, events_told}
+use Rattle.frame_pass.specs.DatagramTable.{Passes, Reads, Writes, doing_by, writes, reads, raises_adp, merges}
+use Rattle.frame_pass.specs.DatagramAtSlave.{is_refused_by, doing, slave_after, datagram_after, payload_after}
+use Rattle.frame_pass.specs.FramePass.{datagrams_after, datagrams_passed, datagrams_behind, at_arrival}
+use Rattle.frame_pass.specs.ClockHistory.{events_on, events_wrote, events_by, events_in, events_passed}
 use Rattle.frame_pass.specs.PlainRegisters.{AreLeft}
 use Rattle.frame_pass.proofs.Fixed.{fixed_advanced}
-use Rattle.frame_pass.proofs.Sizes.{HasSize, size_written}
+use Rattle.frame_pass.proofs.Sizes.{HasSize}
 use Rattle.visit_laws.specs.Drift.{IsDrift, time_in, first_behind, IsOther, AreOthersThan}
 use Rattle.visit_laws.proofs.Effects.{size_advanced, left_advanced}
 use Rattle.visit_laws.proofs.Ports.{there}
-use Rattle.visit_laws.proofs.Latching.{size_after}
 use Rattle.visit_laws.proofs.DataRead.{size_read, time_read}
 
 -- a datagram that a slave refuses changes nothing but the ADP

@@ -1,5 +1,5 @@
 use Rattle.visit_laws.proofs.Drifting.{receives, tells, passes_refused, left_unwritten, quiet_unwritten, kept_unread, addressed, unaddressed}
-use Rattle.std.proofs.Common.{ap, refl}
+use Rattle.std.proofs.Common.{ap}
 use Rattle.frame_pass.specs.DatagramTable.{writes, reads}
 use Rattle.visit_laws.proofs.laws.drift_at_slave.Goals as goal
 
