@@ -20,12 +20,12 @@ after_at (suc k) s [] = refl
 after_at zero s (d ∷ ds) = refl
 after_at (suc k) s (d ∷ ds) = after_at k (slave_after s d) ds
 
-passed_at : (k sent : ℕ) (s : Slave) (ds : List DatagramValue) (d : DatagramValue) → slice_get ds k ≡ Some d
+pub passed_at : (k sent : ℕ) (s : Slave) (ds : List DatagramValue) (d : DatagramValue) → slice_get ds k ≡ Some d
     → slice_get (datagrams_passed sent s ds) k ≡ Some (datagram_after (slave_before k (at_arrival sent s) ds) d)
 unfolding datagrams_passed
 passed_at k sent s ds d is = after_at k (at_arrival sent s) ds ∙ ap (option_map (datagram_after (slave_before k (at_arrival sent s) ds))) is
 
-does_at : (k : ℕ) (s : Slave) (ds : List DatagramValue) (d : DatagramValue) → slice_get ds k ≡ Some d → doing_in k s ds ≡ doing (slave_before k s ds) d
+pub does_at : (k : ℕ) (s : Slave) (ds : List DatagramValue) (d : DatagramValue) → slice_get ds k ≡ Some d → doing_in k s ds ≡ doing (slave_before k s ds) d
 does_at k s ds d is = ap (doing_for (slave_before k s ds)) is
 
 same_datagram : (o : Option DatagramValue) (d e : DatagramValue) → o ≡ Some d → o ≡ Some e → d ≡ e

@@ -7,3 +7,4 @@ pub mod Drifting
 pub mod Counting
 pub mod Copying
 pub mod Arming
+pub mod Stations

@@ -3,3 +3,4 @@ pub mod Drift
 pub mod Counters
 pub mod Copies
 pub mod Arming
+pub mod Stations

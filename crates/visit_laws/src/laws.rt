@@ -21,6 +21,7 @@ ghost use Rattle.frame_pass.specs.PlainRegisters.{AreLeft};
 ghost use Rattle.sync_units.specs.Calls.{Call};
 ghost use Rattle.frame_pass.specs.UnitHistory.{calls_to, calls_passed, are_activating, HasRun};
 ghost use Rattle.sync_units.specs.KeptEdges.{empty_list};
+ghost use Rattle.visit_laws.specs.Stations.{slave_found, IsAlone, BringsBack, IsReceived};
 ghost use Rattle.visit_laws.specs.Arming.{armed_from, Activates};
 ghost use Rattle.visit_laws.specs.Copies.{HasCopies, time_at};
 ghost use Rattle.visit_laws.specs.Counters.{slave_before, doing_in, gains, AreDoing};
@@ -160,4 +161,17 @@ pub fn arming()
         → arms byte (slave_after (slave_behind (at_arrival sent s) before) d).registers ≡ true
         → HasRun (width s.registers.kind) m.clock.osc (sent + s.visits.arrive) (Some (armed_from byte (slave_after (slave_behind (at_arrival sent s) before) d).registers)) (empty_list m.edges.keep) []
         (slave_passed sent end s (before ++ d ∷ later)) }
+{}
+
+/// A datagram of a frame that reads or writes one slave by its station address, which no other of the first h slaves has when
+/// the datagram comes to it, nor refuses the slave it.
+pub fn by_station()
+    ensures read { (k q h sent : ℕ) (ss : List Slave) (ds : List DatagramValue) (d e : DatagramValue) (s : Slave) → q < h → slice_get ss q ≡ Some s → slice_get ds k ≡ Some d
+        → d.head.command ≡ Fprd → d.wkc < 2 ^ 16 → IsAlone d.head.adp k q h sent ss ds → length (slave_found k q sent ss ds s).registers.bytes ≡ 4096
+        → (d.head.adp == station (slave_found k q sent ss ds s).registers) ≡ true → is_refused (slave_found k q sent ss ds s).registers.kind d.head.ado (length d.payload) ≡ false
+        → slice_get (datagrams_behind h sent ss ds) k ≡ Some e → BringsBack d (slave_found k q sent ss ds s) e }
+    ensures written { (k q h sent : ℕ) (ss : List Slave) (ds : List DatagramValue) (d e g : DatagramValue) (s : Slave) → q < h → slice_get ss q ≡ Some s → slice_get ds k ≡ Some d
+        → d.head.command ≡ Fpwr → d.wkc < 2 ^ 16 → IsAlone d.head.adp k q h sent ss ds
+        → (d.head.adp == station (slave_found k q sent ss ds s).registers) ≡ true → is_refused (slave_found k q sent ss ds s).registers.kind d.head.ado (length d.payload) ≡ false
+        → slice_get (datagrams_behind q sent ss ds) k ≡ Some g → slice_get (datagrams_behind h sent ss ds) k ≡ Some e → IsReceived d (slave_found k q sent ss ds s) g e }
 {}
