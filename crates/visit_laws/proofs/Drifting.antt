@@ -102,7 +102,7 @@ tells s m d size is drift whole own =
     time_read s m d size is (ap reads (does_own s d drift.command own whole)) (rw drift.command refl) drift.ado (omega (arith, drift.size))
 
 -- a write apart from the system time and the speed brings no event
-not_covered : (at m addr n : ℕ) → 0 < m → AreApart addr n at m → covers at m addr n ≡ false
+pub not_covered : (at m addr n : ℕ) → 0 < m → AreApart addr n at m → covers at m addr n ≡ false
 not_covered at m addr n some (inl h) = grind (arith, nat_tests, h, some)
 not_covered at m addr n some (inr h) = grind (arith, nat_tests, h, some)
 

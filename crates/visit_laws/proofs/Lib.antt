@@ -8,3 +8,4 @@ pub mod Counting
 pub mod Copying
 pub mod Arming
 pub mod Stations
+pub mod Resting

@@ -1,14 +1,12 @@
 -- A datagram that addresses one slave by its station address.
-use Rattle.std.proofs.Common.{◌≡◌, ℕ, zero, suc, ◌+◌, ◌^◌, ◌<◌, ◌≤◌, ◌⊎◌, List, [], ◌∷◌, length, Option, Some, None, Bool, true, false, refl, sym, ap, ap₂, ◌∙◌, arith, inl, inr}
+use Rattle.std.proofs.Common.{◌≡◌, ℕ, zero, suc, ◌+◌, ◌^◌, ◌<◌, ◌≤◌, ◌⊎◌, List, [], ◌∷◌, length, Option, Some, true, false, refl, ap, ap₂, ◌∙◌, arith, inl, inr}
 use Rattle.std.specs.Prelude.{◌≢◌, ◌==◌, slice_get}
-use Rattle.std.proofs.lemmas.Bool.Decides.{eqb_tells}
 use Rattle.ecat_frame.specs.FrameGrammar.{DatagramValue}
-use Rattle.ecat_frame.specs.declared.command.Command.{Command}
 use Rattle.ecat_frame.specs.declared.command.Command.TheVariants.{Fprd, Fpwr}
-use Rattle.esc_regs.specs.RegisterBytes.{number_at, AreApart}
+use Rattle.esc_regs.specs.RegisterBytes.{number_at}
 use Rattle.esc_regs.specs.RegisterAccess.{is_refused}
 use Rattle.frame_pass.specs.SlaveState.{Slave, holds, station}
-use Rattle.frame_pass.specs.DatagramTable.{Doing, Passes, Reads, Writes, reads, gain, raised_by, raises_adp, merges}
+use Rattle.frame_pass.specs.DatagramTable.{Passes, Reads, Writes, reads, gain, raised_by, raises_adp, merges}
 use Rattle.frame_pass.specs.DatagramAtSlave.{doing, is_refused_by, datagram_after}
 use Rattle.frame_pass.specs.FramePass.{at_arrival, datagrams_passed, datagrams_behind}
 use Rattle.frame_pass.proofs.Sizes.{HasSize}

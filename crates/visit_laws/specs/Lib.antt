@@ -4,3 +4,4 @@ pub mod Counters
 pub mod Copies
 pub mod Arming
 pub mod Stations
+pub mod Rest

@@ -1,11 +1,11 @@
 //! Laws over the definitions alone, for proofs of the layers above.
 
-ghost use Rattle.std.specs.Prelude.{◌≡◌, ◌≢◌, ◌⊎◌, ℕ, ◌+◌, ◌%◌, ◌^◌, ◌≤◌, ◌<◌, ◌==◌, List, [], ◌∷◌, ◌++◌, length, true, false, Option, Some, None, IfSome, slice_get, option_map, take};
+ghost use Rattle.std.specs.Prelude.{◌≡◌, ◌≢◌, ◌⊎◌, ℕ, ◌+◌, ◌%◌, ◌^◌, ◌≤◌, ◌<◌, ◌==◌, List, [], ◌∷◌, ◌++◌, length, true, false, Option, Some, None, IfSome, pos, slice_get, option_map, take};
 ghost use Rattle.std.specs.List.{sum_by};
 ghost use Rattle.ecat_frame.specs.FrameGrammar.{DatagramValue};
 ghost use Rattle.ecat_frame.specs.declared.command.Command.TheVariants.{Fprd, Fpwr};
 ghost use Rattle.osc_clock.specs.Ticks.{IsRunning};
-ghost use Rattle.local_clock.specs.Reading.{Clock, Happening, received, reading_at};
+ghost use Rattle.local_clock.specs.Reading.{Clock, Happening, received, advanced, clock_at, reading_at};
 ghost use Rattle.frame_pass.specs.SlaveState.{Slave, Timing, holds, station, width};
 ghost use Rattle.esc_regs.specs.RegisterBytes.{number_at, AreApart};
 ghost use Rattle.esc_regs.specs.RegisterAccess.{is_refused};
@@ -21,6 +21,7 @@ ghost use Rattle.frame_pass.specs.PlainRegisters.{AreLeft};
 ghost use Rattle.sync_units.specs.Calls.{Call};
 ghost use Rattle.frame_pass.specs.UnitHistory.{calls_to, calls_passed, are_activating, HasRun};
 ghost use Rattle.sync_units.specs.KeptEdges.{empty_list};
+ghost use Rattle.visit_laws.specs.Rest.{AreResets};
 ghost use Rattle.visit_laws.specs.Stations.{slave_found, IsAlone, BringsBack, IsReceived};
 ghost use Rattle.visit_laws.specs.Arming.{armed_from, Activates};
 ghost use Rattle.visit_laws.specs.Copies.{HasCopies, time_at};
@@ -29,12 +30,16 @@ ghost use Rattle.visit_laws.specs.Drift.{IsDrift, time_in, first_behind, AreOthe
 ghost use Rattle.visit_laws.specs.ReceiveTimes.{IsReceiveTime, IsBefore, AreReceiveTimes};
 
 /// A frame with a datagram that makes a measuring slave latch leaves in its receive times what the clock of its history
-/// shows at the frame's visits; where the frame does not come back into a port, the port's stays. A frame that has no
-/// such datagram leaves them all, and so does time.
+/// shows at the frame's visits; where the frame does not come back into a port, the port's stays. What it shows later than
+/// the arrival, the clock that stood there shows when it is advanced. A frame that has no such datagram leaves the receive
+/// times, and so does time.
 pub fn receive_times()
     ensures latched { (w : ℕ) (c : Clock) (events : List Happening) (sent : ℕ) (end : Option ℕ) (s : Slave) (m : Timing) (ds : List DatagramValue) → IsRunning c.osc
         → s.timing ≡ Some m → IsBefore sent s → HasHistory w c events s → are_latching (at_arrival sent s) ds ≡ true
         → AreReceiveTimes (reading_at w c (events ++ events_passed sent s ds)) sent end s.visits s.registers (slave_passed sent end s ds).registers }
+    ensures later { (w : ℕ) (c : Clock) (events : List Happening) (sent u : ℕ) (s : Slave) (m : Timing) (ds : List DatagramValue) → IsRunning c.osc → s.timing ≡ Some m
+        → length s.registers.bytes ≡ 4096 → m.clock.instant ≤ sent + s.visits.arrive → HasHistory w c events s → sent + s.visits.arrive ≤ u
+        → reading_at w c (events ++ events_passed sent s ds) u ≡ (advanced w u (clock_at w c (events ++ events_passed sent s ds) (sent + s.visits.arrive))).reading }
     ensures left { (at n sent : ℕ) (end : Option ℕ) (s : Slave) (ds : List DatagramValue) → IsReceiveTime at n → length s.registers.bytes ≡ 4096
         → are_latching (at_arrival sent s) ds ≡ false → holds n at (slave_passed sent end s ds).registers ≡ holds n at s.registers }
     ensures time { (at n t : ℕ) (s : Slave) → IsReceiveTime at n → length s.registers.bytes ≡ 4096 → holds n at (advanced_to t s).registers ≡ holds n at s.registers }
@@ -174,4 +179,12 @@ pub fn by_station()
         → d.head.command ≡ Fpwr → d.wkc < 2 ^ 16 → IsAlone d.head.adp k q h sent ss ds
         → (d.head.adp == station (slave_found k q sent ss ds s).registers) ≡ true → is_refused (slave_found k q sent ss ds s).registers.kind d.head.ado (length d.payload) ≡ false
         → slice_get (datagrams_behind q sent ss ds) k ≡ Some g → slice_get (datagrams_behind h sent ss ds) k ≡ Some e → IsReceived d (slave_found k q sent ss ds s) g e }
+{}
+
+/// A frame none of whose datagrams writes the system time brings a clock no difference, but resets at most; and a clock that
+/// begins with nothing left to correct, and receives none, has nothing left at any time.
+pub fn clocks_at_rest()
+    ensures frame { (sent : ℕ) (s : Slave) (ds : List DatagramValue) → AreLeft 0x0910 4 (at_arrival sent s) ds → AreResets (events_passed sent s ds) }
+    ensures joined { (events more : List Happening) → AreResets events → AreResets more → AreResets (events ++ more) }
+    ensures rests { (w t : ℕ) (c : Clock) (events : List Happening) → AreResets events → c.left ≡ pos 0 → (clock_at w c events t).left ≡ pos 0 }
 {}
