@@ -9,3 +9,4 @@ pub mod Copying
 pub mod Arming
 pub mod Stations
 pub mod Resting
+pub mod Asides

@@ -5,3 +5,4 @@ pub mod Copies
 pub mod Arming
 pub mod Stations
 pub mod Rest
+pub mod Aside

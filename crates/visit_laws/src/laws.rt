@@ -21,6 +21,7 @@ ghost use Rattle.frame_pass.specs.PlainRegisters.{AreLeft};
 ghost use Rattle.sync_units.specs.Calls.{Call};
 ghost use Rattle.frame_pass.specs.UnitHistory.{calls_to, calls_passed, are_activating, HasRun};
 ghost use Rattle.sync_units.specs.KeptEdges.{empty_list};
+ghost use Rattle.visit_laws.specs.Aside.{AreAside, HaveSize};
 ghost use Rattle.visit_laws.specs.Rest.{AreResets};
 ghost use Rattle.visit_laws.specs.Stations.{slave_found, IsAlone, BringsBack, IsReceived};
 ghost use Rattle.visit_laws.specs.Arming.{armed_from, Activates};
@@ -187,4 +188,15 @@ pub fn clocks_at_rest()
     ensures frame { (sent : ℕ) (s : Slave) (ds : List DatagramValue) → AreLeft 0x0910 4 (at_arrival sent s) ds → AreResets (events_passed sent s ds) }
     ensures joined { (events more : List Happening) → AreResets events → AreResets more → AreResets (events ++ more) }
     ensures rests { (w t : ℕ) (c : Clock) (events : List Happening) → AreResets events → c.left ≡ pos 0 → (clock_at w c events t).left ≡ pos 0 }
+{}
+
+/// Which registers a frame leaves can be seen as it is sent. Datagrams that are aside of a place at a slave of a station
+/// address stay so behind slaves; where they also leave the station address, the slave writes nothing at the place. A frame
+/// that writes nothing at 0x0900 to 0x0903 does not latch, and one that writes nothing at 0x0981 does not activate.
+pub fn frames_aside()
+    ensures behind { (at n own p sent : ℕ) (ss : List Slave) (ds : List DatagramValue) → HaveSize ss → AreAside at n own ds → AreAside at n own (datagrams_behind p sent ss ds) }
+    ensures left { (at n own : ℕ) (s : Slave) (ds : List DatagramValue) → length s.registers.bytes ≡ 4096 → station s.registers ≡ own → AreAside at n own ds → AreAside 0x0010 2 own ds
+        → AreLeft at n s ds }
+    ensures unlatched { (s : Slave) (ds : List DatagramValue) → AreLeft 0x0900 4 s ds → are_latching s ds ≡ false }
+    ensures inactive { (s : Slave) (ds : List DatagramValue) → AreLeft 0x0981 1 s ds → are_activating s ds ≡ false }
 {}
