@@ -1,8 +1,7 @@
 -- Frames that write none of the bytes at a place.
-use Rattle.std.proofs.Common.{◌≡◌, ℕ, zero, suc, ◌+◌, ◌<◌, ◌≤◌, ◌⊎◌, List, [], ◌∷◌, length, Option, Some, None, Bool, true, false, ◌&&◌, ◌||◌, refl, sym, ap, ◌∙◌, arith, inl, inr}
-use Rattle.std.specs.Prelude.{if◌then◌else◌, ◌==◌, slice_range, bit_or}
+use Rattle.std.proofs.Common.{◌≡◌, ℕ, zero, suc, ◌+◌, List, [], ◌∷◌, length, Option, Some, None, Bool, true, false, refl, sym, ap, ◌∙◌, arith, inl, inr}
+use Rattle.std.specs.Prelude.{if◌then◌else◌, ◌==◌}
 use Rattle.std.specs.Option.{is_some}
-use Rattle.std.specs.List.{AllByRecursion}
 use Rattle.std.proofs.lemmas.Bool.Decides.{nat_tests}
 use Rattle.ecat_frame.specs.FrameGrammar.{DatagramValue}
 use Rattle.ecat_frame.specs.declared.command.Command.{Command}
@@ -10,19 +9,17 @@ use Rattle.ecat_frame.specs.declared.command.Command.TheVariants.{Nop, Aprd, Apw
 use Rattle.esc_regs.specs.declared.clock_kind.ClockKind.{ClockKind}
 use Rattle.esc_regs.specs.RegisterBytes.{AreApart}
 use Rattle.esc_regs.specs.RegisterAccess.{is_refused, touches}
-use Rattle.esc_regs.specs.RegisterFile.{Registers}
 use Rattle.esc_regs.specs.RegisterWrite.{written, told}
-use Rattle.esc_regs.proofs.Showing.{range_length}
-use Rattle.esc_regs.proofs.Storing.{not_past, untouched}
+use Rattle.esc_regs.proofs.Storing.{untouched}
 use Rattle.frame_pass.specs.SlaveState.{Slave, holds, station}
-use Rattle.frame_pass.specs.LiveRegisters.{live, read_of}
-use Rattle.frame_pass.specs.DatagramTable.{Doing, Passes, doing_by, reads, writes, merges, raises_adp}
+use Rattle.frame_pass.specs.LiveRegisters.{read_of}
+use Rattle.frame_pass.specs.DatagramTable.{doing_by, reads, writes, merges, raises_adp}
 use Rattle.frame_pass.specs.DatagramAtSlave.{is_refused_by, doing, merged, data_with, slave_after, datagram_after, payload_after, is_latching}
 use Rattle.frame_pass.specs.FramePass.{at_arrival, datagrams_after, datagrams_passed, datagrams_behind, are_latching}
 use Rattle.frame_pass.specs.UnitHistory.{is_activating, are_activating}
 use Rattle.frame_pass.specs.PlainRegisters.{IsPlain, AreLeft}
 use Rattle.frame_pass.proofs.Plain.{plain_datagram}
-use Rattle.frame_pass.proofs.Sizes.{HasSize, size_shown}
+use Rattle.frame_pass.proofs.Sizes.{HasSize}
 use Rattle.visit_laws.specs.Aside.{never_writes, IsAside, AreAside, HaveSize}
 use Rattle.visit_laws.proofs.Counting.{other_station}
 use Rattle.visit_laws.proofs.DataRead.{size_read}

@@ -10,3 +10,4 @@ pub mod Arming
 pub mod Stations
 pub mod Resting
 pub mod Asides
+pub mod Storage

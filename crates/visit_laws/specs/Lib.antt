@@ -6,3 +6,4 @@ pub mod Arming
 pub mod Stations
 pub mod Rest
 pub mod Aside
+pub mod Stored

@@ -1,6 +1,6 @@
 //! Laws over the definitions alone, for proofs of the layers above.
 
-ghost use Rattle.std.specs.Prelude.{◌≡◌, ◌≢◌, ◌⊎◌, ℕ, ◌+◌, ◌%◌, ◌^◌, ◌≤◌, ◌<◌, ◌==◌, List, [], ◌∷◌, ◌++◌, length, true, false, Option, Some, None, IfSome, pos, slice_get, option_map, take};
+ghost use Rattle.std.specs.Prelude.{◌≡◌, ◌≢◌, ◌⊎◌, ℕ, ◌+◌, ◌-◌, ◌%◌, ◌^◌, ◌≤◌, ◌<◌, ◌==◌, List, [], ◌∷◌, ◌++◌, length, true, false, Option, Some, None, IfSome, pos, slice_get, option_map, take};
 ghost use Rattle.std.specs.List.{sum_by};
 ghost use Rattle.ecat_frame.specs.FrameGrammar.{DatagramValue};
 ghost use Rattle.ecat_frame.specs.declared.command.Command.TheVariants.{Fprd, Fpwr};
@@ -12,15 +12,17 @@ ghost use Rattle.esc_regs.specs.RegisterAccess.{is_refused};
 ghost use Rattle.esc_regs.specs.declared.clock_kind.ClockKind.TheVariants as ClockKind;
 ghost use Rattle.frame_pass.specs.LiveRegisters.{system_time};
 ghost use Rattle.frame_pass.specs.WriteEffects.{difference, arms};
-ghost use Rattle.frame_pass.specs.DatagramTable.{Passes, Reads, Writes, reads, merges, gain, raises_adp, raised_by};
+ghost use Rattle.frame_pass.specs.DatagramTable.{Passes, Reads, Writes, reads, writes, merges, gain, raises_adp, raised_by};
 ghost use Rattle.frame_pass.specs.DatagramAtSlave.{is_refused_by, doing, datagram_after, slave_after};
 ghost use Rattle.frame_pass.specs.Advancing.{advanced_to, measuring_at};
 ghost use Rattle.frame_pass.specs.FramePass.{slave_behind, slave_passed, datagrams_after, datagrams_behind, are_latching, at_arrival};
 ghost use Rattle.frame_pass.specs.ClockHistory.{HasHistory, events_by, events_passed};
-ghost use Rattle.frame_pass.specs.PlainRegisters.{AreLeft};
+ghost use Rattle.frame_pass.specs.PlainRegisters.{IsPlain, AreLeft};
 ghost use Rattle.sync_units.specs.Calls.{Call};
 ghost use Rattle.frame_pass.specs.UnitHistory.{calls_to, calls_passed, are_activating, HasRun};
 ghost use Rattle.sync_units.specs.KeptEdges.{empty_list};
+ghost use Rattle.esc_regs.specs.RegisterTable.{held};
+ghost use Rattle.visit_laws.specs.Stored.{is_stored};
 ghost use Rattle.visit_laws.specs.Aside.{AreAside, HaveSize};
 ghost use Rattle.visit_laws.specs.Rest.{AreResets};
 ghost use Rattle.visit_laws.specs.Stations.{slave_found, IsAlone, BringsBack, IsReceived};
@@ -199,4 +201,12 @@ pub fn frames_aside()
         → AreLeft at n s ds }
     ensures unlatched { (s : Slave) (ds : List DatagramValue) → AreLeft 0x0900 4 s ds → are_latching s ds ≡ false }
     ensures inactive { (s : Slave) (ds : List DatagramValue) → AreLeft 0x0981 1 s ds → are_activating s ds ≡ false }
+{}
+
+/// A datagram that a slave writes, and that has the first m bytes of a register that writes store, as far as the slave has
+/// them, leaves the number that it brings there.
+pub fn stored_numbers()
+    ensures { (addr n m : ℕ) (s : Slave) (d : DatagramValue) → length s.registers.bytes ≡ 4096 → is_stored addr n ≡ true → m ≤ held s.registers.kind n → IsPlain addr m
+        → writes (doing s d) ≡ true → d.head.ado ≤ addr → addr + m ≤ d.head.ado + length d.payload
+        → holds m addr (slave_after s d).registers ≡ number_at m (addr - d.head.ado) d.payload }
 {}
