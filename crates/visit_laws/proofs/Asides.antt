@@ -20,6 +20,7 @@ use Rattle.frame_pass.specs.UnitHistory.{is_activating, are_activating}
 use Rattle.frame_pass.specs.PlainRegisters.{IsPlain, AreLeft}
 use Rattle.frame_pass.proofs.Plain.{plain_datagram}
 use Rattle.frame_pass.proofs.Sizes.{HasSize}
+use Rattle.visit_laws.specs.Counters.{slave_before}
 use Rattle.visit_laws.specs.Aside.{never_writes, IsAside, AreAside, HaveSize}
 use Rattle.visit_laws.proofs.Counting.{other_station}
 use Rattle.visit_laws.proofs.DataRead.{size_read}
@@ -84,6 +85,18 @@ left_by at n own s [] size is a b = tt
 left_by at n own s (d ∷ ds) size is a b =
     let same = station_after s d size (apart_where_written 0x0010 2 own s d is b.0) in
     (apart_where_written at n own s d is a.0, left_by at n own (slave_after s d) ds (size_after s d size) (same ∙ is) a.1 b.1)
+
+-- a slave with 4096 bytes and this station address
+pub record HasStation (own : ℕ) (s : Slave) : Type 0 where
+  pub size : HasSize s.registers
+  pub station_is : station s.registers ≡ own
+
+pub station_before : (k own : ℕ) (s : Slave) (ds : List DatagramValue) → HasSize s.registers → station s.registers ≡ own → AreAside 0x0010 2 own ds → HasStation own (slave_before k s ds)
+unfolding slave_before
+station_before zero own s ds size is a = record { size = size; station_is = is }
+station_before (suc k) own s [] size is a = record { size = size; station_is = is }
+station_before (suc k) own s (d ∷ ds) size is a =
+    station_before k own (slave_after s d) ds (size_after s d size) (station_after s d size (apart_where_written 0x0010 2 own s d is a.0) ∙ is) a.1
 
 -- what is aside stays so on its way
 merged_length : (xs ys : List ℕ) → length (merged xs ys) ≡ length xs

@@ -24,7 +24,7 @@ use Rattle.frame_pass.specs.ClockHistory.{events_on, events_wrote, events_by, ev
 use Rattle.frame_pass.specs.PlainRegisters.{AreLeft}
 use Rattle.frame_pass.proofs.Fixed.{fixed_advanced}
 use Rattle.frame_pass.proofs.Sizes.{HasSize}
-use Rattle.visit_laws.specs.Drift.{IsDrift, time_in, first_behind, IsOther, AreOthersThan}
+use Rattle.visit_laws.specs.Drift.{IsDrift, time_in, first_behind, Brings, IsOther, AreOthersThan}
 use Rattle.visit_laws.proofs.Effects.{size_advanced, left_advanced}
 use Rattle.visit_laws.proofs.Ports.{there}
 use Rattle.visit_laws.proofs.DataRead.{size_read, time_read}
@@ -228,12 +228,6 @@ behind_others (suc h) sent (s ∷ ss) d drift others =
     let rest = behind_others h sent ss (datagram_after (at_arrival sent s) d) one.drift
     (λ i v less is. rw one.adp (others (suc i) v (omega (arith, less)) is)) in
     record { drift = rest.drift; adp = rest.adp ∙ one.adp; payload = rest.payload ∙ one.payload }
-
--- a datagram that brings this time
-pub record Brings (x : ℕ) (d e : DatagramValue) : Type 0 where
-  pub drift : IsDrift e
-  pub adp : e.head.adp ≡ d.head.adp
-  pub time : time_in e ≡ x
 
 told_by : (sent : ℕ) (s : Slave) (m : Timing) (d : DatagramValue) → HasSize s.registers → s.timing ≡ Some m → IsDrift d → is_refused_by s d ≡ false → (d.head.adp == station s.registers) ≡ true
     → Brings (system_time (measuring_at (sent + s.visits.arrive) (record { registers = s.registers; timing = m })) % 2 ^ 32) d (datagram_after (at_arrival sent s) d)

@@ -23,6 +23,12 @@ first_behind zero sent ss d = d
 first_behind (suc h) sent [] d = d
 first_behind (suc h) sent (s ∷ ss) d = first_behind h sent ss (datagram_after (at_arrival sent s) d)
 
+-- what became of such a datagram is one again, at the same address, and brings this time
+pub record Brings (x : ℕ) (d e : DatagramValue) : Type 0 where
+  pub drift : IsDrift e
+  pub adp : e.head.adp ≡ d.head.adp
+  pub time : time_in e ≡ x
+
 -- a slave with 4096 bytes of registers whose station address is another
 pub record IsOther (adp : ℕ) (s : Slave) : Type 0 where
   pub size : length s.registers.bytes ≡ 4096

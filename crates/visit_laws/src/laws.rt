@@ -29,7 +29,7 @@ ghost use Rattle.visit_laws.specs.Stations.{slave_found, IsAlone, BringsBack, Is
 ghost use Rattle.visit_laws.specs.Arming.{armed_from, Activates};
 ghost use Rattle.visit_laws.specs.Copies.{HasCopies, time_at};
 ghost use Rattle.visit_laws.specs.Counters.{slave_before, doing_in, gains, AreDoing};
-ghost use Rattle.visit_laws.specs.Drift.{IsDrift, time_in, first_behind, AreOthersThan};
+ghost use Rattle.visit_laws.specs.Drift.{IsDrift, time_in, first_behind, Brings, AreOthersThan};
 ghost use Rattle.visit_laws.specs.ReceiveTimes.{IsReceiveTime, IsBefore, AreReceiveTimes};
 
 /// A frame with a datagram that makes a measuring slave latch leaves in its receive times what the clock of its history
@@ -98,10 +98,7 @@ pub fn drift_is_carried()
     ensures first { (h sent : ℕ) (ss : List Slave) (d : DatagramValue) (ds : List DatagramValue) → slice_get (datagrams_behind h sent ss (d ∷ ds)) 0 ≡ Some (first_behind h sent ss d) }
     ensures time { (h sent q : ℕ) (ss : List Slave) (d : DatagramValue) (s : Slave) (m : Timing) → q < h → slice_get ss q ≡ Some s → s.timing ≡ Some m → length s.registers.bytes ≡ 4096
         → IsDrift d → is_refused_by s d ≡ false → (d.head.adp == station s.registers) ≡ true → AreOthersThan q d.head.adp h ss
-        → time_in (first_behind h sent ss d) ≡ system_time (measuring_at (sent + s.visits.arrive) (record { registers = s.registers; timing = m })) % 2 ^ 32 }
-    ensures same { (h sent q : ℕ) (ss : List Slave) (d : DatagramValue) (s : Slave) (m : Timing) → q < h → slice_get ss q ≡ Some s → s.timing ≡ Some m → length s.registers.bytes ≡ 4096
-        → IsDrift d → is_refused_by s d ≡ false → (d.head.adp == station s.registers) ≡ true → AreOthersThan q d.head.adp h ss
-        → IsDrift (first_behind h sent ss d) × ((first_behind h sent ss d).head.adp ≡ d.head.adp) }
+        → Brings (system_time (measuring_at (sent + s.visits.arrive) (record { registers = s.registers; timing = m })) % 2 ^ 32) d (first_behind h sent ss d) }
 {}
 
 /// Datagram k of a frame behind the first h slaves. Its command, index and ADO are as they were; its ADP is h more in 16
@@ -121,8 +118,9 @@ pub fn datagrams_on_their_way()
         → slice_get (datagrams_behind h sent ss ds) k ≡ Some e → AreDoing (λ x. reads x ≡ false) k j h sent ss ds → e.payload ≡ d.payload }
 {}
 
-/// What counters gain. It is the sum of what each slave is told to gain. Where one slave alone does not pass a datagram on, it is what that slave gains; FPRD and FPWR are
-/// passed on by every slave of another station address, and read or written by one of that address that does not refuse.
+/// What counters gain: the sum of what each slave is told to gain, and where one slave alone does not pass a datagram on,
+/// what that slave gains. FPRD and FPWR are passed on by every slave of another station address, and read or written by one
+/// of that address that does not refuse.
 pub fn counters()
     ensures sum { (k h sent : ℕ) (g : Slave → ℕ) (ss : List Slave) (ds : List DatagramValue)
         → ((i : ℕ) (s : Slave) → i < h → slice_get ss i ≡ Some s → gain (doing_in k (at_arrival sent s) (datagrams_behind i sent ss ds)) ≡ g s)
@@ -193,12 +191,14 @@ pub fn clocks_at_rest()
 {}
 
 /// Which registers a frame leaves can be seen as it is sent. Datagrams that are aside of a place at a slave of a station
-/// address stay so behind slaves; where they also leave the station address, the slave writes nothing at the place. A frame
-/// that writes nothing at 0x0900 to 0x0903 does not latch, and one that writes nothing at 0x0981 does not activate.
+/// address stay so behind slaves; where they also leave the station address, the slave writes nothing at the place, and each
+/// datagram finds that address. A frame that writes nothing at 0x0900 to 0x0903 does not latch, and one that writes nothing at 0x0981 does not activate.
 pub fn frames_aside()
     ensures behind { (at n own p sent : ℕ) (ss : List Slave) (ds : List DatagramValue) → HaveSize ss → AreAside at n own ds → AreAside at n own (datagrams_behind p sent ss ds) }
     ensures left { (at n own : ℕ) (s : Slave) (ds : List DatagramValue) → length s.registers.bytes ≡ 4096 → station s.registers ≡ own → AreAside at n own ds → AreAside 0x0010 2 own ds
         → AreLeft at n s ds }
+    ensures found { (k own : ℕ) (s : Slave) (ds : List DatagramValue) → length s.registers.bytes ≡ 4096 → station s.registers ≡ own → AreAside 0x0010 2 own ds
+        → (station (slave_before k s ds).registers ≡ own) × (length (slave_before k s ds).registers.bytes ≡ 4096) }
     ensures unlatched { (s : Slave) (ds : List DatagramValue) → AreLeft 0x0900 4 s ds → are_latching s ds ≡ false }
     ensures inactive { (s : Slave) (ds : List DatagramValue) → AreLeft 0x0981 1 s ds → are_activating s ds ≡ false }
 {}
