@@ -1,0 +1,13 @@
+pub mod Table
+pub mod Effects
+pub mod Latching
+pub mod Ports
+pub mod DataRead
+pub mod Drifting
+pub mod Counting
+pub mod Copying
+pub mod Arming
+pub mod Stations
+pub mod Resting
+pub mod Asides
+pub mod Storage
