@@ -12,5 +12,7 @@ mod draws;
 pub mod laws;
 mod segment;
 mod slave;
+#[cfg(test)]
+mod tests;
 
 pub use segment::generate;

@@ -14,6 +14,8 @@ pub mod laws;
 mod losses;
 mod migrate;
 mod slaves;
+#[cfg(test)]
+mod tests;
 mod write;
 
 pub use migrate::migrated;
