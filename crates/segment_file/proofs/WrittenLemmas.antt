@@ -110,7 +110,7 @@ some_within None n h = tt
 some_within (Some a) n h = h a refl
 
 -- the parents of a tree are rows
-parents_within : (rows : List RowValue) → IsTree (tree_rows rows) → All (λ r. IfSome r.above (λ a. a.row < length rows)) rows
+pub parents_within : (rows : List RowValue) → IsTree (tree_rows rows) → All (λ r. IfSome r.above (λ a. a.row < length rows)) rows
 parents_within rows tree = λ k d low.
     let there = get_or-map tree_row rows k d no_row low in
     some_within (get_or rows k d).above (length rows)

@@ -4,7 +4,7 @@ ghost use Rattle.cable_tree.specs.FrameOrder.{order};
 ghost use Rattle.cable_tree.specs.Positions.{position_of};
 ghost use Rattle.segment_shape.specs.Losses.{loss_at};
 ghost use Rattle.segment_shape.specs.Ranges.{IsFile};
-ghost use Rattle.segment_shape.specs.Seen.{shape_seen};
+ghost use Rattle.segment_shape.specs.Seen.{head_seen, shape_seen};
 ghost use Rattle.segment_shape.specs.ShapeOf.{file_of};
 ghost use Rattle.segment_file.specs.Faults.{frames_of_run, lock_in, step_of};
 ghost use Rattle.segment_file.specs.Legal.{IsLegal};
@@ -14,15 +14,16 @@ ghost use Rattle.segment_file.specs.Segment.{clocks, counts_of, measuring, refer
 ghost use Rattle.segment_file.specs.Told.{IsRefusal, IsSegmentText, IsTold};
 
 use crate::checks::{check, tree_of};
-use crate::counts::Counts;
+use crate::counts::{Counts, counts_of};
 use crate::frame_checks::{frames_of_run, lock_in};
-use crate::placing::placed_rows;
+use crate::placing::{placed_rows, tree_rows};
 use crate::seg_error::SegError;
-use crate::slave_row::SlaveRow;
+use crate::slave_row::{SlaveRow, clock_flags};
 use crate::time_checks::step_of;
 use cable_tree::Tree;
+use dc_bounds::reference;
 use segment_shape::{Head, LossList, LossRow, Phase, Shape, read_shape};
-use std::alloc::Global;
+use std::alloc::{AllocError, Global};
 use std::marker::Model;
 
 /// A legal segment: its slaves with their cables and the oscillators of their clocks, the numbers of the
@@ -50,6 +51,33 @@ impl Model for Segment {
 }
 
 impl Segment {
+    /// The segment of this head and of these rows and losses, which are those of a legal segment. Want of
+    /// memory alone refuses it.
+    pub fn from_rows(
+        alloc: Global,
+        head: Head,
+        rows: Vec<SlaveRow>,
+        losses: LossList,
+    ) -> Result<Segment, AllocError>
+        requires { IsLegal (record { head = head_seen head; rows = map row_seen rows.items; losses = losses }) }
+        ensures { IfOk result (λ s. s ≡ record { head = head_seen head; rows = map row_seen rows.items; losses = losses }) }
+    {
+        let tree_rows = tree_rows(alloc, &rows)?;
+        let Ok(tree) = Tree::new(alloc, &tree_rows) else {
+            return Err(AllocError);
+        };
+        let reference = reference(&tree, &clock_flags(&rows)).unwrap();
+        let counts = counts_of(&rows);
+        Ok(Segment {
+            head,
+            rows,
+            losses,
+            tree,
+            reference,
+            counts,
+        })
+    }
+
     /// Of the format: 1, or 2 where rows may list changes of their period.
     pub fn version(&self) -> u8
         ensures is { result ≡ self.now.head.version }

@@ -1,0 +1,10 @@
+pub mod StepLemmas
+pub mod MadeLemmas
+pub mod NameLemmas
+pub mod ClockLemmas
+pub mod PlaceLemmas
+pub mod TreeLemmas
+pub mod MeasureLemmas
+pub mod TripLemmas
+pub mod NumberLemmas
+pub mod LegalLemmas

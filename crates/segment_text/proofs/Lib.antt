@@ -1,0 +1,4 @@
+pub mod PlainLemmas
+pub mod TextLemmas
+pub mod RowLemmas
+pub mod MigratedLemmas

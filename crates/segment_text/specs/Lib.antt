@@ -1,0 +1,4 @@
+pub mod Text
+pub mod SlaveText
+pub mod HeadText
+pub mod Migrated
