@@ -1,5 +1,5 @@
 -- How the calls of a master begin and end, by what is kept.
-use Rattle.std.proofs.Common.{◌≡◌, ◌⊎◌, inl, inr, ℕ, ◌+◌, ◌<◌, ◌≤◌, nat_lt, ltb, if◌then◌else◌, Bool, true, false, List, [], ◌∷◌, ◌++◌, length, map, Option, Some, None, Ok, Err, refl, ap, sym, subst, ◌∙◌, arith}
+use Rattle.std.proofs.Common.{◌≡◌, ◌⊎◌, inl, inr, ℕ, ◌≤◌, nat_lt, ltb, if◌then◌else◌, false, List, [], ◌∷◌, length, map, Option, Some, None, Ok, Err, refl, ap, subst, ◌∙◌, arith}
 use Rattle.std.proofs.lemmas.Bool.Decides.{nat_tests}
 use Rattle.ecat_link.specs.Exchanges.{Exchange}
 use Rattle.dc_master.specs.Inside.{HasStage, kept}
@@ -7,17 +7,15 @@ use Rattle.dc_master.specs.Places.{Asks, AtRest, HasRefused, IsFresh, IsReady, s
 use Rattle.dc_master.specs.declared.exchange.Counters.{Counters}
 use Rattle.dc_master.proofs.Times.{arm_any}
 use Rattle.master_script.specs.Config.{ConfigValue, settle_frames}
-use Rattle.master_script.specs.Kept.{Ends, Kept, StandsFor, given, has_delays, kept_after, kept_at, stage_by, start_shown}
-use Rattle.master_script.specs.Progress.{Progress, Phase, Commissioning, Settling, Arming, Running, progress, beginning, first_steps, arm_steps, turned}
+use Rattle.master_script.specs.Kept.{Ends, Kept, StandsFor, given, has_delays, kept_after, kept_at, stage_by}
+use Rattle.master_script.specs.Progress.{Progress, Commissioning, Settling, Arming, Running, progress, beginning, first_steps, arm_steps}
 use Rattle.master_script.specs.Script.{Answer, Call, Commission, Settle, Arm, Run, next_by}
-use Rattle.master_script.specs.Slaves.{SlaveWords, clocks}
-use Rattle.master_script.specs.Steps.{learned}
+use Rattle.master_script.specs.Slaves.{clocks}
 use Rattle.master_script.specs.Words.{Words, delays_of, start_at}
 use Rattle.master_script.specs.declared.step.MasterError.TheVariants.{Refused}
 use Rattle.master_script.specs.declared.step.Refusal.{Refusal}
 use Rattle.master_script.specs.declared.step.Stage.{Stage}
 use Rattle.master_script.specs.declared.step.Stage.TheVariants as stage
-use Rattle.master_script.specs.declared.step.Step.{Step}
 use Rattle.master_script.specs.declared.step.Step.TheVariants.{Arm as ArmStep}
 use Rattle.master_script.proofs.Counts.{fresh_pins}
 use Rattle.master_script.proofs.Ends.{ends_at}

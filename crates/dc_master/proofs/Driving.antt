@@ -6,7 +6,7 @@ use Rattle.ecat_frame.specs.FrameGrammar.{FrameValue}
 use Rattle.ecat_link.specs.Exchanges.{Exchange, StepOf, Follows}
 use Rattle.ecat_link.specs.Serves.{Serves}
 use Rattle.ecat_link.proofs.Serving.{serves_weaker}
-use Rattle.dc_master.specs.Places.{AtRest, HasRefused, IsReady, IsRefused, IsTimed, one_sent, stood}
+use Rattle.dc_master.specs.Places.{AtRest, HasRefused, IsReady, IsTimed, one_sent, stood}
 use Rattle.dc_master.specs.declared.exchange.Counters.{Counters}
 use Rattle.dc_master.proofs.Parts.{refused_part}
 use Rattle.dc_master.proofs.Shapes.{never_lost}
@@ -16,7 +16,7 @@ use Rattle.master_script.specs.Config.{ConfigValue, settle_frames}
 use Rattle.master_script.specs.Frames.{drift_datagrams}
 use Rattle.master_script.specs.Judged.{judged}
 use Rattle.master_script.specs.Kept.{has_delays}
-use Rattle.master_script.specs.Progress.{Progress, Running, Settling, progress, running, settled, timed}
+use Rattle.master_script.specs.Progress.{Progress, Running, Settling, progress, settled, timed}
 use Rattle.master_script.specs.Script.{Run, Settle as CallSettle, script}
 use Rattle.master_script.specs.Slaves.{clocks}
 use Rattle.master_script.specs.Steps.{expected, frame_of}

@@ -1,5 +1,5 @@
 -- The slaves are judged by their tree, their reference and what can be measured.
-use Rattle.std.proofs.Common.{◌≡◌, ℕ, ◌+◌, ◌≤◌, ◌&&◌, ◌==◌, slice_index_or, cond, true, false, [], ◌∷◌, ◌++◌, filter, arith, List, Bool, Option, Some, None, IsSome, Result, Ok, Err, length, map, is_some, IfErr, OnOk, refl, ap, sym, subst, ◌∙◌}
+use Rattle.std.proofs.Common.{◌≡◌, ℕ, ◌≤◌, ◌&&◌, ◌==◌, slice_index_or, true, false, [], ◌∷◌, filter, arith, List, Bool, Option, Some, None, IsSome, Result, Ok, Err, length, map, is_some, IfErr, OnOk, refl, ap, sym, ◌∙◌}
 use Rattle.std.proofs.Math.Path.{fun_ext}
 use Rattle.std.specs.List.{find}
 use Rattle.std.proofs.lemmas.List.{length-append}

@@ -1,10 +1,9 @@
 -- The positions that are left of those that a flag marks.
-use Rattle.std.proofs.Common.{◌≡◌, ℕ, suc, ◌+◌, ◌-◌, ◌<◌, ◌≤◌, Bool, true, false, List, [], ◌∷◌, ◌++◌, map, filter, length, slice_index_or, Option, Some, None, refl, ap, sym, ◌∙◌, arith}
-use Rattle.std.specs.List.{find, range_with_len}
+use Rattle.std.proofs.Common.{◌≡◌, ℕ, suc, ◌+◌, ◌-◌, ◌<◌, ◌≤◌, Bool, true, false, List, [], ◌∷◌, map, filter, length, slice_index_or, refl, ap, arith}
+use Rattle.std.specs.List.{range_with_len}
 use Rattle.std.proofs.Math.ListN.{get_or-map}
 use Rattle.dc_bounds.specs.Weight.{flag}
-use Rattle.master_script.specs.Slaves.{SlaveWords, is_clock, is_measuring}
-use Rattle.master_script.specs.declared.step.Step.{Step}
+use Rattle.master_script.specs.Slaves.{SlaveWords}
 
 -- the marked positions from k on
 abbrev pub left : (ℕ → Bool) → ℕ → ℕ → List ℕ

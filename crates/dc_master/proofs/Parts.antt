@@ -1,15 +1,15 @@
 -- Parts of a call, step by step.
-use Rattle.std.proofs.Common.{◌≡◌, ℕ, suc, ◌+◌, ◌-◌, ◌<◌, ◌&&◌, not, is_some, Bool, true, false, if◌then◌else◌, List, [], ◌∷◌, ◌++◌, map, Option, Some, None, Result, Ok, Err, refl, ap, sym, ◌∙◌, arith}
+use Rattle.std.proofs.Common.{◌≡◌, ℕ, suc, ◌+◌, ◌-◌, ◌<◌, ◌&&◌, not, is_some, Bool, true, false, if◌then◌else◌, List, [], ◌∷◌, ◌++◌, map, Option, None, Ok, Err, refl, ap, ◌∙◌, arith}
 use Rattle.std.specs.List.{list_any, range_with_len}
 use Rattle.ecat_link.specs.Exchanges.{Exchange, StepOf}
 use Rattle.ecat_link.specs.Serves.{Serves}
 use Rattle.ecat_link.proofs.Serving.{serves_then, serves_weaker}
 use Rattle.dc_master.specs.Places.{AfterStep, Asks, HasRefused, IsRefused, call_of, phase_of}
 use Rattle.dc_master.specs.declared.exchange.Counters.{Counters}
-use Rattle.dc_master.proofs.Left.{left, left_yes, left_no, left_end}
+use Rattle.dc_master.proofs.Left.{left, left_yes, left_no}
 use Rattle.master_script.specs.Config.{ConfigValue}
 use Rattle.master_script.specs.Kept.{has_delays, is_times}
-use Rattle.master_script.specs.Progress.{Phase, Progress, progress}
+use Rattle.master_script.specs.Progress.{Phase, Progress}
 use Rattle.master_script.specs.Script.{script}
 use Rattle.master_script.specs.Words.{Words, delays_of}
 use Rattle.master_script.specs.declared.step.Refusal.{Refusal}

@@ -1,5 +1,5 @@
 -- The slaves are judged after the last Identify.
-use Rattle.std.proofs.Common.{◌≡◌, ℕ, List, [], Option, Some, None, Result, Ok, Err, refl, ap, sym, ◌∙◌}
+use Rattle.std.proofs.Common.{◌≡◌, ℕ, List, [], Some, None, Ok}
 use Rattle.ecat_link.specs.Exchanges.{Exchange}
 use Rattle.dc_master.specs.Places.{Asks}
 use Rattle.dc_master.specs.declared.exchange.Counters.{Counters}

@@ -1,12 +1,11 @@
 -- The reply to a step was judged.
-use Rattle.std.proofs.Common.{◌≡◌, ℕ, List, [], ◌∷◌, Option, Some, None, Result, Ok, Err, refl, ap, sym, ◌∙◌}
+use Rattle.std.proofs.Common.{◌≡◌, ℕ, List, ◌∷◌, Some, Result, Ok, Err, ap, sym, ◌∙◌}
 use Rattle.ecat_frame.specs.FrameGrammar.{FrameValue}
 use Rattle.ecat_link.specs.Exchanges.{Exchange}
 use Rattle.dc_master.specs.Places.{AfterStep, IsBack, IsReceived, stood}
 use Rattle.dc_master.specs.declared.exchange.Counters.{Counters}
 use Rattle.master_script.specs.Config.{ConfigValue}
-use Rattle.master_script.specs.Judged.{judged}
-use Rattle.master_script.specs.Progress.{Phase, progress, answered, turned}
+use Rattle.master_script.specs.Progress.{Phase, answered, turned}
 use Rattle.master_script.specs.Steps.{expected}
 use Rattle.master_script.specs.Words.{Words}
 use Rattle.master_script.specs.declared.step.Refusal.{Refusal}

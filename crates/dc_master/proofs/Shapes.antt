@@ -1,7 +1,7 @@
 -- A reply with no difference has the shape of what was sent.
 use Rattle.std.proofs.Common.{◌≡◌, ◌==◌, cond, ℕ, List, [], ◌∷◌, length, map, replicate, Bool, true, false, Option, Some, None, refl, ap, sym, ◌∙◌}
 use Rattle.std.proofs.lemmas.List.{length-replicate}
-use Rattle.ecat_frame.specs.Difference.{first_difference, wiped, wiped_datagram}
+use Rattle.ecat_frame.specs.Difference.{first_difference, wiped_datagram}
 use Rattle.ecat_frame.specs.FrameGrammar.{DatagramValue, FrameValue, IsFrame}
 use Rattle.ecat_frame.proofs.Wiped.{none_is_same}
 use Rattle.dc_master.specs.Places.{sizes}

@@ -1,5 +1,5 @@
 -- The receive times that are read, and what is kept while steps of later commissioning are ahead.
-use Rattle.std.proofs.Common.{◌≡◌, ◌≢◌, ◌⊎◌, inl, inr, ℕ, ◌+◌, ◌<◌, ◌≤◌, ◌&&◌, not, eqb, ltb, is_some, Bool, true, false, if◌then◌else◌, List, [], ◌∷◌, ◌++◌, length, map, slice_index_or, slice_set, Option, Some, None, refl, ap, sym, subst, ◌∙◌, arith}
+use Rattle.std.proofs.Common.{◌≡◌, ◌≢◌, ℕ, ◌+◌, ◌<◌, ◌≤◌, ◌&&◌, not, eqb, ltb, is_some, Bool, true, false, if◌then◌else◌, List, [], ◌∷◌, ◌++◌, length, map, slice_set, Option, Some, None, refl, ap, sym, ◌∙◌, arith}
 use Rattle.std.specs.List.{list_any}
 use Rattle.std.proofs.lemmas.Bool.Decides.{nat_tests}
 use Rattle.std.proofs.lemmas.List.{get_or-set_other, get_or-set_same, get_or_past}
@@ -11,7 +11,7 @@ use Rattle.master_script.specs.Config.{ConfigValue}
 use Rattle.master_script.specs.Kept.{is_times}
 use Rattle.master_script.specs.Words.{Words, delays_of}
 use Rattle.master_script.specs.declared.step.Step.{Step}
-use Rattle.master_script.specs.declared.step.Step.TheVariants.{Times, Set, Arm, Rate, Latch as LatchStep}
+use Rattle.master_script.specs.declared.step.Step.TheVariants.{Times, Set, Arm}
 
 from_eqb : (m n : ℕ) → eqb m n ≡ true → m ≡ n
 from_eqb m n h = grind (arith, nat_tests)

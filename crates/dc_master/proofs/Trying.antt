@@ -1,10 +1,10 @@
 -- A step that is sent up to three times.
-use Rattle.std.proofs.Common.{◌≡◌, ℕ, ◌+◌, ◌<◌, List, [], ◌∷◌, ◌++◌, Option, Some, None, refl, sym, ap, ◌∙◌, arith}
+use Rattle.std.proofs.Common.{◌≡◌, ℕ, ◌+◌, ◌<◌, List, ◌∷◌, Option, Some, None, refl}
 use Rattle.ecat_frame.specs.FrameGrammar.{FrameValue}
 use Rattle.ecat_link.specs.Exchanges.{Exchange, StepOf, Follows}
 use Rattle.ecat_link.specs.Serves.{Serves}
 use Rattle.ecat_link.proofs.Serving.{serves_none, serves_weaker}
-use Rattle.dc_master.specs.Places.{AfterTries, Asks, IsBack, IsRefused, call_of, one_sent, phase_of, stood}
+use Rattle.dc_master.specs.Places.{AfterTries, Asks, call_of, one_sent, phase_of}
 use Rattle.dc_master.specs.declared.exchange.Counters.{Counters}
 use Rattle.master_script.specs.Config.{ConfigValue}
 use Rattle.master_script.specs.Judged.{judged}

@@ -1,5 +1,5 @@
 -- What a master is given, and the ranges of it.
-use Rattle.std.specs.Prelude.{◌≡◌, ℕ, ◌+◌, ◌<◌, ◌≤◌, ⊤, Option, Some, None, length}
+use Rattle.std.specs.Prelude.{◌≡◌, ℕ, ◌<◌, ◌≤◌, ⊤, Option, Some, None, length}
 use Rattle.std.specs.List.{All}
 use Rattle.dc_delay.specs.declared.kind.Kind.{Kind}
 use Rattle.dc_master.specs.declared.config.Config.{Config}

@@ -1,15 +1,13 @@
 -- Where the script stands while a call runs, by what the master notes.
-use Rattle.std.specs.Prelude.{◌≡◌, ℕ, ◌+◌, ◌-◌, ◌*◌, ◌%◌, ◌<◌, ◌≤◌, ⊤, ◌^◌, if◌then◌else◌, List, [], ◌∷◌, ◌++◌, length, map, Option, Some, None, Result, Ok, Err}
+use Rattle.std.specs.Prelude.{◌≡◌, ℕ, ◌+◌, ◌-◌, ◌*◌, ◌%◌, ◌<◌, ◌≤◌, ⊤, ◌^◌, if◌then◌else◌, List, [], ◌∷◌, length, map, Option, Some, None, Result, Ok, Err}
 use Rattle.ecat_frame.specs.FrameGrammar.{DatagramValue, FrameValue}
 use Rattle.ecat_link.specs.Exchanges.{Exchange}
-use Rattle.dc_master.specs.Known.{words_of}
 use Rattle.dc_master.specs.declared.exchange.Counters.{Counters}
-use Rattle.dc_master.specs.declared.exchange.Notes.{Notes}
 use Rattle.master_script.specs.Config.{ConfigValue}
 use Rattle.master_script.specs.Judged.{judged}
-use Rattle.master_script.specs.Kept.{has_delays, is_times}
+use Rattle.master_script.specs.Kept.{has_delays}
 use Rattle.wrap_time.specs.Extended.{extended}
-use Rattle.master_script.specs.Progress.{Phase, Commissioning, Settling, Arming, Running, arm_steps, Progress, progress, turned, answered, beginning, lost_one, drift_one}
+use Rattle.master_script.specs.Progress.{Phase, Commissioning, Arming, Running, arm_steps, Progress, progress, turned, answered, beginning, lost_one}
 use Rattle.master_script.specs.Script.{Call, Commission, Arm as CallArm}
 use Rattle.master_script.specs.Slaves.{clocks}
 use Rattle.master_script.specs.Steps.{expected, learned, low_in}

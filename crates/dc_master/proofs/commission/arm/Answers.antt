@@ -1,4 +1,4 @@
-use Rattle.std.proofs.Common.{◌≡◌, ◌+◌, ◌-◌, ◌<◌, ◌∷◌, [], ℕ, List, true, false, filter, length, map, refl, ap, sym, ◌∙◌, arith}
+use Rattle.std.proofs.Common.{◌≡◌, ◌+◌, ◌-◌, ◌<◌, [], ℕ, List, true, false, filter, length, map, refl, ap, sym, ◌∙◌, arith}
 use Rattle.std.specs.List.{range_with_len}
 use Rattle.ecat_link.proofs.Serving.{serves_none, serves_weaker}
 use Rattle.dc_bounds.specs.Weight.{flag}
@@ -10,7 +10,7 @@ use Rattle.dc_master.proofs.Times.{shown_arm}
 use Rattle.dc_master.proofs.commission.arm.Goals as goal
 use Rattle.dc_master.proofs.commission.arm.Goals.{then-is_clock+in_default, else-is_clock}
 use Rattle.master_script.specs.Progress.{Arming}
-use Rattle.master_script.specs.Slaves.{SlaveWords, clocks, is_clock}
+use Rattle.master_script.specs.Slaves.{clocks, is_clock}
 use Rattle.master_script.specs.Words.{Words, delays_of}
 use Rattle.master_script.specs.declared.step.Step.TheVariants.{Arm}
 

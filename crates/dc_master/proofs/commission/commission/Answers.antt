@@ -1,15 +1,13 @@
-use Rattle.std.proofs.Common.{◌≡◌, ◌∙◌, List, ℕ, [], Some, map, sym, ap}
+use Rattle.std.proofs.Common.{◌≡◌, ◌∙◌, map, sym, ap}
 use Rattle.ecat_link.proofs.Serving.{serves_then, serves_weaker}
 use Rattle.dc_master.specs.ConfigRange.{value_of}
 use Rattle.dc_master.specs.Known.{words_of}
-use Rattle.dc_master.specs.Places.{Asks, HasRefused}
 use Rattle.dc_master.proofs.Judging.{never_judged}
 use Rattle.dc_master.proofs.Parts.{at_todo}
 use Rattle.dc_master.proofs.Planned.{planned_ok}
 use Rattle.dc_master.proofs.commission.commission.Goals as goal
-use Rattle.master_script.specs.Progress.{Commissioning, later_steps}
-use Rattle.master_script.specs.Slaves.{SlaveWords, clocks, judgement}
-use Rattle.master_script.specs.Words.{Words}
+use Rattle.master_script.specs.Progress.{Commissioning}
+use Rattle.master_script.specs.Slaves.{clocks, judgement}
 use Rattle.master_script.specs.declared.step.Refusal.TheVariants.{Lost}
 use Rattle.master_script.specs.declared.step.Step.TheVariants.{Set}
 

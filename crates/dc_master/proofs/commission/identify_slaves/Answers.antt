@@ -1,11 +1,11 @@
-use Rattle.std.proofs.Common.{◌≡◌, ◌+◌, ◌-◌, ◌∷◌, [], length, map, refl, ap, sym, ◌∙◌, arith}
+use Rattle.std.proofs.Common.{◌≡◌, ◌+◌, ◌-◌, ◌∷◌, [], length, map, refl, ap, ◌∙◌, arith}
 use Rattle.std.specs.List.{range_with_len}
 use Rattle.std.proofs.lemmas.List.{length_push}
 use Rattle.ecat_link.proofs.Serving.{serves_weaker}
 use Rattle.dc_delay.specs.ShapeRows.{positions}
 use Rattle.dc_master.specs.ConfigRange.{value_of}
 use Rattle.dc_master.specs.Known.{words_of}
-use Rattle.dc_master.proofs.Parts.{at_todo, range_more, range_end, refused_part, shown_none, then_err, then_ok}
+use Rattle.dc_master.proofs.Parts.{at_todo, range_more, refused_part, shown_none, then_err, then_ok}
 use Rattle.dc_master.proofs.commission.identify_slaves.Goals as goal
 use Rattle.master_script.specs.Progress.{Commissioning}
 use Rattle.master_script.specs.Words.{Words}

@@ -1,8 +1,7 @@
-use Rattle.std.proofs.Common.{◌≡◌, ◌∷◌, ◌++◌, [], map, refl, ap, sym, ◌∙◌}
+use Rattle.std.proofs.Common.{◌∷◌, ◌++◌, [], map, refl, ap, sym, ◌∙◌}
 use Rattle.ecat_link.proofs.Serving.{serves_then, serves_weaker}
 use Rattle.dc_master.specs.ConfigRange.{value_of}
 use Rattle.dc_master.specs.Known.{words_of}
-use Rattle.dc_master.specs.Places.{Asks}
 use Rattle.dc_master.proofs.Parts.{at_todo, refused_part, then_err, then_ok}
 use Rattle.dc_master.proofs.Times.{shown_ahead, times_ahead}
 use Rattle.dc_master.proofs.commission.measure.Goals as goal

@@ -1,4 +1,4 @@
-use Rattle.std.proofs.Common.{◌≡◌, ◌+◌, ◌*◌, ◌<◌, ◌≤◌, ℕ, List, [], ◌++◌, false, length, map}
+use Rattle.std.proofs.Common.{◌≡◌, ◌*◌, ◌<◌, ◌≤◌, ℕ, List, [], ◌++◌, false, length, map}
 use Rattle.ecat_link.specs.Serves.{Serves}
 use Rattle.dc_bounds.specs.Weight.{flag}
 use Rattle.dc_delay.specs.Latched.{measures}

@@ -1,4 +1,4 @@
-use Rattle.std.proofs.Common.{◌≡◌, ◌+◌, ◌*◌, ◌≤◌, [], length, map}
+use Rattle.std.proofs.Common.{◌≡◌, ◌*◌, ◌≤◌, length, map}
 use Rattle.ecat_link.specs.Serves.{Serves}
 use Rattle.dc_bounds.specs.Weight.{flag}
 use Rattle.dc_master.specs.ConfigRange.{value_of}

@@ -1,4 +1,4 @@
-use Rattle.std.proofs.Common.{ℕ, List, sym, ◌∙◌, ap}
+use Rattle.std.proofs.Common.{sym}
 use Rattle.dc_master.proofs.Shapes.{alike, replied, counted}
 use Rattle.dc_master.proofs.drift.judge_drift.Goals as goal
 use Rattle.master_script.specs.declared.step.Step.TheVariants.{Drift}

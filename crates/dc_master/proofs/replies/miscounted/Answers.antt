@@ -1,4 +1,4 @@
-use Rattle.std.proofs.Common.{◌≡◌, ◌<◌, ◌≤◌, ◌⊎◌, ◌==◌, true, false, length, map, slice_index_or, sym, ap, ◌∙◌, arith, rules}
+use Rattle.std.proofs.Common.{sym, ◌∙◌, arith}
 use Rattle.ecat_frame.specs.Reading.{seen}
 use Rattle.dc_master.proofs.Miscounts.{next_same, next_apart, at_end, wkc_here}
 use Rattle.dc_master.proofs.replies.miscounted.Goals as goal

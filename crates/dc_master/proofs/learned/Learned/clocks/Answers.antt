@@ -1,6 +1,6 @@
-use Rattle.std.proofs.Common.{◌≡◌, ◌+◌, ◌<◌, length, map, ap, sym, ◌∙◌, true, false, List, ℕ, arith}
+use Rattle.std.proofs.Common.{◌<◌, length, map, ap, sym, ◌∙◌, List, ℕ, arith}
 use Rattle.dc_bounds.specs.Weight.{flag}
-use Rattle.dc_master.proofs.Left.{left, left_no, length_yes}
+use Rattle.dc_master.proofs.Left.{left_no, length_yes}
 use Rattle.dc_master.proofs.learned.Learned.clocks.Goals as goal
 use Rattle.dc_master.proofs.learned.Learned.clocks.Goals.{then-is_clock, else-is_clock}
 use Rattle.master_script.specs.Slaves.{is_clock}

@@ -1,6 +1,6 @@
-use Rattle.std.proofs.Common.{◌≡◌, ◌+◌, ◌<◌, length, map, ap, sym, ◌∙◌, true, false, List, ℕ, arith}
+use Rattle.std.proofs.Common.{◌<◌, length, map, ap, sym, ◌∙◌, List, ℕ, arith}
 use Rattle.dc_bounds.specs.Weight.{flag}
-use Rattle.dc_master.proofs.Left.{left, left_no, length_yes}
+use Rattle.dc_master.proofs.Left.{left_no, length_yes}
 use Rattle.dc_master.proofs.learned.Learned.measuring.Goals as goal
 use Rattle.dc_master.proofs.learned.Learned.measuring.Goals.{then-is_measuring, else-is_measuring}
 use Rattle.master_script.specs.Slaves.{is_measuring}

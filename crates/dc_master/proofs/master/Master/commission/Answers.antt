@@ -1,11 +1,10 @@
-use Rattle.std.proofs.Common.{◌≡◌, Some, None, Ok, Err}
+use Rattle.std.proofs.Common.{Ok}
 use Rattle.ecat_link.proofs.Serving.{serves_weaker}
 use Rattle.dc_master.specs.ConfigRange.{value_of}
 use Rattle.dc_master.specs.Known.{words_of}
 use Rattle.dc_master.proofs.Calls.{begins_fresh, commissioned_ends, ends_as, is_fresh, refused_ends, stands_as}
 use Rattle.dc_master.proofs.master.Master.commission.Goals as goal
 use Rattle.master_script.specs.Script.{Commission}
-use Rattle.master_script.specs.declared.step.MasterError.TheVariants.{Refused}
 use Rattle.master_script.specs.declared.step.Stage.TheVariants as stage
 
 pub returns-in-Ok-clause-serves : goal.returns-in-Ok-clause-serves
