@@ -1,0 +1,11 @@
+mod Left
+mod Miscounts
+mod Trying
+mod Shapes
+mod Received
+mod Parts
+mod Times
+mod Judging
+mod Planned
+mod Driving
+mod Calls

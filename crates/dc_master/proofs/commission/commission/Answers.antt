@@ -1,0 +1,42 @@
+use Rattle.std.proofs.Common.{◌≡◌, ◌∙◌, map, sym, ap}
+use Rattle.ecat_link.proofs.Serving.{serves_then, serves_weaker}
+use Rattle.dc_master.specs.ConfigRange.{value_of}
+use Rattle.dc_master.specs.Known.{words_of}
+use Rattle.dc_master.proofs.Judging.{never_judged}
+use Rattle.dc_master.proofs.Parts.{at_todo}
+use Rattle.dc_master.proofs.Planned.{planned_ok}
+use Rattle.dc_master.proofs.commission.commission.Goals as goal
+use Rattle.master_script.specs.Progress.{Commissioning}
+use Rattle.master_script.specs.Slaves.{clocks, judgement}
+use Rattle.master_script.specs.declared.step.Refusal.TheVariants.{Lost}
+use Rattle.master_script.specs.declared.step.Step.TheVariants.{Set}
+
+pub returns-in-Err-judge_slaves-clause-lost : goal.returns-in-Err-judge_slaves-clause-lost
+returns-in-Err-judge_slaves-clause-lost g c q e =
+    let s : c.in-Err-judge_slaves.refusal ≡ Lost q = cc in
+    absurd (never_judged c.deref.result.now c.in-Err-judge_slaves.refusal q c.in-Err-judge_slaves.ensures.is s)
+
+pub returns-in-Err-measure-clause-serves : goal.returns-in-Err-measure-clause-serves
+returns-in-Err-measure-clause-serves g c =
+    let cfg = value_of c.args.config.now in
+    let i = c.identify_slaves.new.notes in
+    let w = words_of i.learned in
+    let j = c.in-Ok.ensures.is ∙ ap (λ ss. judgement ss) c.deref.ensures.0 in
+    serves_then g.L.Link.step _ _ _ _ _ _ _
+    (serves_weaker g.L.Link.step _ _ _ _ _ _ _ (λ es b. b) (λ es b. planned_ok cfg i.counters w c.in-Ok.reference es c.identify_slaves.ensures.reference j b) c.in_default.ensures.serves)
+    (serves_weaker g.L.Link.step _ _ _ _ _ _ _ (λ es b. b) (λ es b. rw (sym c.measure.ensures.delays) at b) c.in-Err-measure.ensures.serves)
+
+pub returns-clause-serves : goal.returns-clause-serves
+returns-clause-serves g c =
+    let cfg = value_of c.args.config.now in
+    let i = c.identify_slaves.new.notes in
+    let w = words_of i.learned in
+    let m = c.measure.new.notes in
+    let v = words_of m.learned in
+    let j = c.in-Ok.ensures.is ∙ ap (λ ss. judgement ss) c.deref.ensures.0 in
+    serves_then g.L.Link.step _ _ _ _ _ _ _
+    (serves_then g.L.Link.step _ _ _ _ _ _ _
+    (serves_weaker g.L.Link.step _ _ _ _ _ _ _ (λ es b. b) (λ es b. planned_ok cfg i.counters w c.in-Ok.reference es c.identify_slaves.ensures.reference j b) c.in_default.ensures.serves)
+    c.in_default-measure.ensures.serves)
+    (serves_weaker g.L.Link.step _ _ _ _ _ _ _ (λ es b. at_todo cfg Commissioning m.counters v (map Set (clocks w.slaves)) (map Set (clocks v.slaves)) es (ap (λ ss. map Set (clocks ss)) (sym c.measure.ensures.slaves)) b)
+    (λ es b. b) c.set_clocks.ensures.serves)

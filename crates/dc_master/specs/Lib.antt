@@ -1,0 +1,5 @@
+pub mod ConfigRange
+pub mod Known
+pub mod Places
+pub mod Inside
+pub mod Idle

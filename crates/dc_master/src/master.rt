@@ -1,0 +1,252 @@
+ghost use Rattle.std.specs.Prelude.{◌≡◌, ◌≤◌, ◌⊎◌, ℕ, [], Err, IfOk, None, OnErr, OnOk, Some, slice_index_or};
+ghost use Rattle.ecat_link.specs.RoseBy.{RoseBy};
+ghost use Rattle.ecat_link.specs.Serves.{Serves};
+ghost use Rattle.dc_master.specs.ConfigRange.{IsConfig, value_of};
+ghost use Rattle.dc_master.specs.Idle.{IsIdle};
+ghost use Rattle.master_script.specs.Config.{settle_frames as settle_frames_of};
+ghost use Rattle.master_script.specs.Kept.{Ends, StandsFor};
+ghost use Rattle.master_script.specs.Script.{Arm, Commission, Run, Settle, script};
+ghost use Rattle.master_script.specs.declared.step.MasterError.TheVariants.{Refused, Spent};
+ghost use Rattle.master_script.specs.declared.step.Refusal.TheVariants.{Lost};
+ghost use Rattle.master_script.specs.declared.step.Stage.TheVariants as stage;
+
+use crate::commission::{arm, commission};
+use crate::config::Config;
+use crate::drift::{run, settle, settle_frames};
+use crate::exchange::{Counters, Notes};
+use crate::learned::Learned;
+use crate::start_time::start;
+use arrayvec::ArrayVec;
+use dc_base::NoMemory;
+use ecat_link::Link;
+use master_script::{MasterError, Refusal, Stage};
+use std::alloc::Global;
+use std::marker::Model;
+
+/// A master of distributed clocks. Its calls come in the order of its stages: [`commission`](Self::commission),
+/// [`settle`](Self::settle), [`arm`](Self::arm) and [`run`](Self::run), each with the link that it is given.
+/// After a refusal nothing is sent any more, and each call answers `Spent` with that refusal.
+#[derive(Debug, Drop)]
+pub struct Master {
+    config: Config,
+    stage: Stage,
+    refusal: Option<Refusal>,
+    notes: Notes,
+}
+
+impl Model for Master {
+    ghost use Rattle.master_script.specs.Kept.{Kept};
+
+    ghost Value = { Kept };
+
+    ghost use Rattle.dc_master.specs.Inside.{IsKept, kept_of};
+
+    ghost view = { kept_of };
+
+    ghost invariant = { IsKept };
+}
+
+impl Master {
+    /// A master that has sent nothing. It takes all the memory that it ever needs.
+    pub fn new(alloc: Global, config: Config) -> Result<Master, NoMemory>
+        requires { IsConfig (value_of config) }
+        ensures fresh { IfOk result (λ m. StandsFor None m []) }
+        ensures config { IfOk result (λ m. m.config ≡ value_of config) }
+        ensures stage { IfOk result (λ m. m.stage ≡ stage.Fresh) }
+        ensures refusal { IfOk result (λ m. m.refusal ≡ None) }
+    {
+        let Ok(learned) = Learned::new(alloc, config.kinds.len()) else {
+            return Err(NoMemory);
+        };
+        Ok(Master {
+            config,
+            stage: Stage::Fresh,
+            refusal: None,
+            notes: Notes {
+                counters: Counters {
+                    sent: 0,
+                    lost: 0,
+                    drifts: 0,
+                },
+                learned,
+                delays: ArrayVec::new(),
+            },
+        })
+    }
+
+    /// What the master has done.
+    pub fn stage(&self) -> Stage
+        ensures { result ≡ self.now.stage }
+    {
+        self.stage
+    }
+
+    /// How many frames were sent.
+    pub fn sent(&self) -> u32
+        ensures { result ≡ self.now.sent }
+    {
+        self.notes.counters.sent
+    }
+
+    /// How many of them were lost.
+    pub fn lost(&self) -> u32
+        ensures { result ≡ self.now.lost }
+    {
+        self.notes.counters.lost
+    }
+
+    /// The measured delay of the clock at a position, in ns. None until the last receive times were read, and at
+    /// a position that is not that of a clock.
+    pub fn delay(&self, position: u16) -> Option<u64>
+        ensures { result ≡ slice_index_or self.now.delays position None }
+    {
+        match self.notes.delays.get(usize::from(position)) {
+            Some(delay) => *delay,
+            None => None,
+        }
+    }
+
+    /// The position of the reference clock. None until the slaves were judged and not refused.
+    pub fn reference(&self) -> Option<u16>
+        ensures { result ≡ self.now.words.reference }
+    {
+        self.notes.learned.reference
+    }
+
+    /// The start time of the SYNC units, before shifts, in ns. None until arming has begun.
+    pub fn start(&self) -> Option<u64>
+        ensures { result ≡ self.now.start }
+    {
+        if self.notes.counters.drifts > settle_frames(&self.config) {
+            Some(start(&self.config, &self.notes.learned))
+        } else {
+            None
+        }
+    }
+
+    /// Counts and identifies the slaves, measures their delays, and sets the clocks. `Lost` comes where a frame
+    /// was lost three times; `Topology`, `NoReference` and `Unmeasurable` after the last slave told what it is.
+    pub fn commission<L: Link>(&mut self, link: &mut L) -> Result<(), MasterError>
+        requires { (self.old.stage ≡ stage.Fresh) ⊎ (self.old.stage ≡ stage.Spent) }
+        ensures config { self.new.config ≡ self.old.config }
+        ensures spent { (r : _) → self.old.refusal ≡ Some r → IsIdle L.state L.lost self.old self.new link.old link.new × (result ≡ Err (Spent r)) }
+        ensures serves { self.old.refusal ≡ None → Serves L.step (script self.old.config Commission)
+            (StandsFor None self.old) (L.state link.old) (L.state link.new) (Ends self.old.config Commission self.new result) }
+        ensures stage { OnOk result (self.new.stage ≡ stage.Commissioned) }
+        ensures refusal { OnOk result (self.new.refusal ≡ None) }
+        ensures ended { OnErr result (self.new.stage ≡ stage.Spent) }
+        ensures refused { (r : _) → result ≡ Err (Refused r) → self.new.refusal ≡ Some r }
+        ensures few { self.new.sent ≤ 203097 }
+        ensures later { L.lost link.old ≤ L.lost link.new }
+        ensures lost { (step : _) → result ≡ Err (Refused (Lost step)) → RoseBy 3 (L.lost link.old) (L.lost link.new) }
+    {
+        if let Some(refusal) = self.refusal {
+            return Err(MasterError::Spent(refusal));
+        }
+        match commission(&self.config, &mut self.notes, link) {
+            Ok(()) => {
+                self.stage = Stage::Commissioned;
+                Ok(())
+            }
+            Err(refusal) => {
+                self.stage = Stage::Spent;
+                self.refusal = Some(refusal);
+                Err(MasterError::Refused(refusal))
+            }
+        }
+    }
+
+    /// Lets the clocks settle, by `lock_in + loss_run + 1` drift frames. `Lost` comes where all of them were lost.
+    pub fn settle<L: Link>(&mut self, link: &mut L) -> Result<(), MasterError>
+        requires { (self.old.stage ≡ stage.Commissioned) ⊎ (self.old.stage ≡ stage.Spent) }
+        ensures config { self.new.config ≡ self.old.config }
+        ensures spent { (r : _) → self.old.refusal ≡ Some r → IsIdle L.state L.lost self.old self.new link.old link.new × (result ≡ Err (Spent r)) }
+        ensures serves { self.old.refusal ≡ None → Serves L.step (script self.old.config Settle)
+            (StandsFor None self.old) (L.state link.old) (L.state link.new) (Ends self.old.config Settle self.new result) }
+        ensures stage { OnOk result (self.new.stage ≡ stage.Settled) }
+        ensures refusal { OnOk result (self.new.refusal ≡ None) }
+        ensures ended { OnErr result (self.new.stage ≡ stage.Spent) }
+        ensures refused { (r : _) → result ≡ Err (Refused r) → self.new.refusal ≡ Some r }
+        ensures few { self.new.sent ≤ 203097 }
+        ensures later { L.lost link.old ≤ L.lost link.new }
+        ensures lost { (step : _) → result ≡ Err (Refused (Lost step)) → RoseBy (settle_frames_of self.old.config) (L.lost link.old) (L.lost link.new) }
+    {
+        if let Some(refusal) = self.refusal {
+            return Err(MasterError::Spent(refusal));
+        }
+        match settle(&self.config, &mut self.notes, link) {
+            Ok(()) => {
+                self.stage = Stage::Settled;
+                Ok(())
+            }
+            Err(refusal) => {
+                self.stage = Stage::Spent;
+                self.refusal = Some(refusal);
+                Err(MasterError::Refused(refusal))
+            }
+        }
+    }
+
+    /// Arms the SYNC unit of each clock. `Lost` comes where a frame was lost three times.
+    pub fn arm<L: Link>(&mut self, link: &mut L) -> Result<(), MasterError>
+        requires { (self.old.stage ≡ stage.Settled) ⊎ (self.old.stage ≡ stage.Spent) }
+        ensures config { self.new.config ≡ self.old.config }
+        ensures spent { (r : _) → self.old.refusal ≡ Some r → IsIdle L.state L.lost self.old self.new link.old link.new × (result ≡ Err (Spent r)) }
+        ensures serves { self.old.refusal ≡ None → Serves L.step (script self.old.config Arm)
+            (StandsFor None self.old) (L.state link.old) (L.state link.new) (Ends self.old.config Arm self.new result) }
+        ensures stage { OnOk result (self.new.stage ≡ stage.Armed) }
+        ensures refusal { OnOk result (self.new.refusal ≡ None) }
+        ensures ended { OnErr result (self.new.stage ≡ stage.Spent) }
+        ensures refused { (r : _) → result ≡ Err (Refused r) → self.new.refusal ≡ Some r }
+        ensures few { self.new.sent ≤ 203097 }
+        ensures later { L.lost link.old ≤ L.lost link.new }
+        ensures lost { (step : _) → result ≡ Err (Refused (Lost step)) → RoseBy 3 (L.lost link.old) (L.lost link.new) }
+    {
+        if let Some(refusal) = self.refusal {
+            return Err(MasterError::Spent(refusal));
+        }
+        match arm(&self.config, &mut self.notes, link) {
+            Ok(()) => {
+                self.stage = Stage::Armed;
+                Ok(())
+            }
+            Err(refusal) => {
+                self.stage = Stage::Spent;
+                self.refusal = Some(refusal);
+                Err(MasterError::Refused(refusal))
+            }
+        }
+    }
+
+    /// Keeps the clocks together by so many drift frames, at most 100,000. A lost one is no refusal.
+    pub fn run<L: Link>(&mut self, link: &mut L, frames: u32) -> Result<(), MasterError>
+        requires stage { (self.old.stage ≡ stage.Armed) ⊎ (self.old.stage ≡ stage.Spent) }
+        requires few { frames ≤ 100000 }
+        ensures config { self.new.config ≡ self.old.config }
+        ensures spent { (r : _) → self.old.refusal ≡ Some r → IsIdle L.state L.lost self.old self.new link.old link.new × (result ≡ Err (Spent r)) }
+        ensures serves { self.old.refusal ≡ None → Serves L.step (script self.old.config (Run frames))
+            (StandsFor None self.old) (L.state link.old) (L.state link.new) (Ends self.old.config (Run frames) self.new result) }
+        ensures stage { OnOk result (self.new.stage ≡ stage.Ended) }
+        ensures refusal { OnOk result (self.new.refusal ≡ None) }
+        ensures ended { OnErr result (self.new.stage ≡ stage.Spent) }
+        ensures refused { (r : _) → result ≡ Err (Refused r) → self.new.refusal ≡ Some r }
+        ensures few { self.new.sent ≤ 203097 }
+        ensures later { L.lost link.old ≤ L.lost link.new }
+        ensures lost { (step : _) → result ≡ Err (Refused (Lost step)) → ⊥ }
+    {
+        if let Some(refusal) = self.refusal {
+            return Err(MasterError::Spent(refusal));
+        }
+        match run(&self.config, &mut self.notes, link, frames) {
+            Ok(()) => {
+                self.stage = Stage::Ended;
+                Ok(())
+            }
+            Err(refusal) => {
+                self.stage = Stage::Spent;
+                self.refusal = Some(refusal);
+                Err(MasterError::Refused(refusal))
+            }
+        }
+    }
+}
