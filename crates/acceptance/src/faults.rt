@@ -52,7 +52,7 @@ fn faults_of_the_two_ends_are_told(rt: HostRuntime) -> Result<(), Fail> {
     ] {
         let mut source = MemSource::new(input, 4096, vec![in alloc; reads]?);
         let mut sink = MemSink::new(alloc, 4096, 10, vec![in alloc; writes]?)?;
-        let answer = dc_main(alloc, &words, &mut source, &mut sink);
+        let answer = dc_main(alloc, &words, &mut source, &mut sink, &mut None);
         assert_eq!(rt; answer, outcome);
         assert_eq!(rt; answer.status(), status);
         assert_eq!(rt; format!(in alloc; "{answer}")?.as_str(), line);

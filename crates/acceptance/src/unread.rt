@@ -13,7 +13,7 @@ fn wrong_words_are_refused_unread(rt: HostRuntime) -> Result<(), Fail> {
         }
         let mut input = MemSource::new(Vec::new(alloc), 1, vec![in alloc; 1]?);
         let mut output = MemSink::new(alloc, 0, 1, Vec::new(alloc))?;
-        let outcome = dc_main(alloc, &words, &mut input, &mut output);
+        let outcome = dc_main(alloc, &words, &mut input, &mut output, &mut None);
         assert_eq!(rt; outcome, Outcome::Usage, "{line}");
         assert_eq!(rt; input.faults(), 0);
     }

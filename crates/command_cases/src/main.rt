@@ -43,7 +43,7 @@ fn called(alloc: Global, words: &[String], input: Vec<u8>) -> Result<String, All
     let Ok(mut output) = MemSink::new(alloc, ROOM, CHUNK, Vec::new(alloc)) else {
         return Err(AllocError);
     };
-    let outcome = dc_main(alloc, words, &mut input, &mut output);
+    let outcome = dc_main(alloc, words, &mut input, &mut output, &mut None);
     let line = outcome.to_string(alloc)?;
     told(alloc, outcome.status(), line.as_str(), output.bytes())
 }

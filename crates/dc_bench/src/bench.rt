@@ -1,9 +1,13 @@
-ghost use Rattle.std.specs.Prelude.{◌≡◌, ◌⊎◌, ℕ, ◌+◌, ◌≤◌, Some, None, OnOk, Err};
+ghost use Rattle.std.specs.Prelude.{◌≡◌, ◌⊎◌, ℕ, ◌≤◌, Some, None, OnOk, OnErr, Err};
+ghost use Rattle.ecat_link.specs.RoseBy.{RoseBy};
 ghost use Rattle.ecat_link.specs.Serves.{Serves};
+ghost use Rattle.master_script.specs.Config.{settle_frames};
 ghost use Rattle.master_script.specs.Kept.{StandsFor, Ends};
 ghost use Rattle.master_script.specs.Script.{Commission, Settle, Arm, Run, script};
 ghost use Rattle.master_script.specs.declared.step.MasterError.{MasterError as Error};
 ghost use Rattle.master_script.specs.declared.step.Refusal.{Refusal};
+ghost use Rattle.master_script.specs.declared.step.Refusal.TheVariants as Reason;
+ghost use Rattle.master_script.specs.declared.step.Step.{Step};
 ghost use Rattle.master_script.specs.declared.step.Stage.{Stage};
 ghost use Rattle.frame_pass.specs.SegmentState.{segment_step, finished};
 
@@ -45,6 +49,11 @@ impl Bench {
             (StandsFor None self.old.master) (Some self.old.wire) (Some self.new.wire) (Ends self.old.master.config Commission self.new.master result) }
         ensures stage { OnOk result (self.new.master.stage ≡ Stage.Commissioned) }
         ensures refusal { OnOk result (self.new.master.refusal ≡ None) }
+        ensures ended { OnErr result (self.new.master.stage ≡ Stage.Spent) }
+        ensures refused { (r : Refusal) → result ≡ Err (Error.Refused r) → self.new.master.refusal ≡ Some r }
+        ensures few { self.new.master.sent ≤ 203097 }
+        ensures later { self.old.wire.lost ≤ self.new.wire.lost }
+        ensures lost { (step : Step) → result ≡ Err (Error.Refused (Reason.Lost step)) → RoseBy 3 self.old.wire.lost self.new.wire.lost }
     {
         self.master.commission(&mut self.wire)
     }
@@ -58,6 +67,11 @@ impl Bench {
             (StandsFor None self.old.master) (Some self.old.wire) (Some self.new.wire) (Ends self.old.master.config Settle self.new.master result) }
         ensures stage { OnOk result (self.new.master.stage ≡ Stage.Settled) }
         ensures refusal { OnOk result (self.new.master.refusal ≡ None) }
+        ensures ended { OnErr result (self.new.master.stage ≡ Stage.Spent) }
+        ensures refused { (r : Refusal) → result ≡ Err (Error.Refused r) → self.new.master.refusal ≡ Some r }
+        ensures few { self.new.master.sent ≤ 203097 }
+        ensures later { self.old.wire.lost ≤ self.new.wire.lost }
+        ensures lost { (step : Step) → result ≡ Err (Error.Refused (Reason.Lost step)) → RoseBy (settle_frames self.old.master.config) self.old.wire.lost self.new.wire.lost }
     {
         self.master.settle(&mut self.wire)
     }
@@ -71,6 +85,11 @@ impl Bench {
             (StandsFor None self.old.master) (Some self.old.wire) (Some self.new.wire) (Ends self.old.master.config Arm self.new.master result) }
         ensures stage { OnOk result (self.new.master.stage ≡ Stage.Armed) }
         ensures refusal { OnOk result (self.new.master.refusal ≡ None) }
+        ensures ended { OnErr result (self.new.master.stage ≡ Stage.Spent) }
+        ensures refused { (r : Refusal) → result ≡ Err (Error.Refused r) → self.new.master.refusal ≡ Some r }
+        ensures few { self.new.master.sent ≤ 203097 }
+        ensures later { self.old.wire.lost ≤ self.new.wire.lost }
+        ensures lost { (step : Step) → result ≡ Err (Error.Refused (Reason.Lost step)) → RoseBy 3 self.old.wire.lost self.new.wire.lost }
     {
         self.master.arm(&mut self.wire)
     }
@@ -85,6 +104,11 @@ impl Bench {
             (StandsFor None self.old.master) (Some self.old.wire) (Some self.new.wire) (Ends self.old.master.config (Run frames) self.new.master result) }
         ensures stage { OnOk result (self.new.master.stage ≡ Stage.Ended) }
         ensures refusal { OnOk result (self.new.master.refusal ≡ None) }
+        ensures ended { OnErr result (self.new.master.stage ≡ Stage.Spent) }
+        ensures refused { (r : Refusal) → result ≡ Err (Error.Refused r) → self.new.master.refusal ≡ Some r }
+        ensures few { self.new.master.sent ≤ 203097 }
+        ensures later { self.old.wire.lost ≤ self.new.wire.lost }
+        ensures lost { (step : Step) → result ≡ Err (Error.Refused (Reason.Lost step)) → ⊥ }
     {
         self.master.run(&mut self.wire, frames)
     }

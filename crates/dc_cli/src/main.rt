@@ -15,7 +15,7 @@ fn main(rt: HostRuntime) -> ExitCode {
         Ok(words) => {
             let mut input = ReadSource::new(rt.reader());
             let mut output = WriteSink::new(io::writer(&rt));
-            dc_main(rt.alloc(), &words, &mut input, &mut output)
+            dc_main(rt.alloc(), &words, &mut input, &mut output, &mut None)
         }
         Err(error) if error.kind() == ErrorKind::OutOfMemory => Outcome::NoMemory,
         // A word that is not UTF-8 is no command.

@@ -1,5 +1,5 @@
-pub mod Tables
-pub mod Requests
-pub mod Numerals
-pub mod Sorting
-pub mod Lines
+pub mod Rows
+pub mod Configured
+pub mod Begun
+pub mod Told
+pub mod Serving

@@ -1,9 +1,9 @@
-pub mod Words
-pub mod LineFile
-pub mod Table
-pub mod LineDelays
-pub mod CheckText
 pub mod SegFaults
-pub mod Seen
+pub mod Steps
 pub mod Outcomes
+pub mod Seen
+pub mod CheckText
+pub mod RunReports
+pub mod Called
+pub mod Written
 pub mod Answers

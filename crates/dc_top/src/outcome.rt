@@ -1,6 +1,8 @@
 ghost use Rattle.std.specs.Prelude.{◌≡◌};
 
 use crate::SegFault;
+use crate::step_text::StepText;
+use dc_master::Step;
 use dc_show::FrameFault;
 use std::fmt;
 
@@ -17,6 +19,8 @@ pub enum Outcome {
     BadSegment(SegFault),
     /// This line of the input of `show`, counted from 1, is no frame.
     BadFrame(u32, FrameFault),
+    /// No try of this step of the script came back.
+    Lost(Step),
     /// The source failed.
     ReadFault,
     /// The sink failed, and holds a front of the output.
@@ -25,7 +29,7 @@ pub enum Outcome {
     NoMemory,
     /// The input has more than 16,777,216 bytes.
     TooLong,
-    /// The command is not built yet, or the wire of today cannot run the file.
+    /// The command is not built yet.
     NotYet,
 }
 
@@ -42,6 +46,7 @@ impl Outcome {
             Outcome::BadText => 3,
             Outcome::BadSegment(..) => 4,
             Outcome::BadFrame(..) => 5,
+            Outcome::Lost(..) => 6,
             Outcome::ReadFault => 7,
             Outcome::WriteFault => 8,
             Outcome::NoMemory => 9,
@@ -65,6 +70,7 @@ impl fmt::Display for Outcome {
             Outcome::BadText => write!(f, "dc: not JSON"),
             Outcome::BadSegment(fault) => write!(f, "dc: segment: {fault}"),
             Outcome::BadFrame(line, fault) => write!(f, "dc: frame: line {line} {fault}"),
+            Outcome::Lost(step) => write!(f, "dc: lost {}", StepText(*step)),
             Outcome::ReadFault => write!(f, "dc: read fault"),
             Outcome::WriteFault => write!(f, "dc: write fault"),
             Outcome::NoMemory => write!(f, "dc: no memory"),

@@ -1,8 +1,0 @@
-use Rattle.std.proofs.Common.{◌≡◌, ◌+◌, length}
-use Rattle.dc_top.proofs.commission.set_all.Given as goal
-
-abbrev pub invariant-loop-position : goal.invariant-loop-position
-invariant-loop-position l = record {
-  each : length l.delays.items ≡ l.position;
-  sent : l.wire.sent ≡ l.fn.wire.sent + l.position;
-}
