@@ -4,4 +4,4 @@ pub mod NextEdges
 pub mod Exact
 pub mod Calls
 pub mod KeptOfSignal
-mod Spare
+pub mod Spare
