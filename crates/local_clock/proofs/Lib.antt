@@ -9,3 +9,5 @@ pub mod LocalTime
 pub mod Steady
 pub mod Behind
 mod Rounds
+mod Share
+mod Near

@@ -39,8 +39,8 @@ behind_by w a v h =
     ]
 
 -- d later
-later : (w r e d v : ℕ) → ahead w ((r + (e + d)) % 2 ^ w) v ≡ (ahead w ((r + e) % 2 ^ w) v + d) % 2 ^ w
-later w r e d v =
+pub ahead_later : (w r e d v : ℕ) → ahead w ((r + (e + d)) % 2 ^ w) v ≡ (ahead w ((r + e) % 2 ^ w) v + d) % 2 ^ w
+ahead_later w r e d v =
     let p : (r + (e + d)) + (2 ^ w - v) ≡ ((r + e) + (2 ^ w - v)) + d = omega arith in
     mod-add-mod (r + (e + d)) (2 ^ w) (2 ^ w - v) ∙ ap (λ x. x % 2 ^ w) p
     ∙ sym (ap (λ x. (x + d) % 2 ^ w) (mod-add-mod (r + e) (2 ^ w) (2 ^ w - v)) ∙ mod-add-mod ((r + e) + (2 ^ w - v)) (2 ^ w) d)
@@ -49,7 +49,7 @@ later w r e d v =
 pub still_behind : (w r e d v : ℕ) → 2 ^ (w - 1) ≤ ahead w ((r + e) % 2 ^ w) v → ahead w ((r + e) % 2 ^ w) v + d < 2 ^ w
     → is_behind w ((r + (e + d)) % 2 ^ w) v ≡ true
 still_behind w r e d v high short =
-    let is : ahead w ((r + (e + d)) % 2 ^ w) v ≡ ahead w ((r + e) % 2 ^ w) v + d = later w r e d v ∙ mod-eq_of_lt short in
+    let is : ahead w ((r + (e + d)) % 2 ^ w) v ≡ ahead w ((r + e) % 2 ^ w) v + d = ahead_later w r e d v ∙ mod-eq_of_lt short in
     upper w (ahead w ((r + (e + d)) % 2 ^ w) v) (omega (arith, is, high))
 
 -- just after, it is not
@@ -58,7 +58,7 @@ pub come_to : (w r e d v : ℕ) → ahead w ((r + e) % 2 ^ w) v < 2 ^ w → 2 ^ 
 come_to w r e d v below reached near half =
     let over : ahead w ((r + e) % 2 ^ w) v + d ≡ (ahead w ((r + e) % 2 ^ w) v + d - 2 ^ w) + 2 ^ w * 1 = omega arith in
     let is : ahead w ((r + (e + d)) % 2 ^ w) v ≡ ahead w ((r + e) % 2 ^ w) v + d - 2 ^ w =
-    later w r e d v ∙ ap (λ x. x % 2 ^ w) over ∙ add-mul-mod_self_left (ahead w ((r + e) % 2 ^ w) v + d - 2 ^ w) (2 ^ w) 1 ∙ mod-eq_of_lt (omega (arith, near, half, reached)) in
+    ahead_later w r e d v ∙ ap (λ x. x % 2 ^ w) over ∙ add-mul-mod_self_left (ahead w ((r + e) % 2 ^ w) v + d - 2 ^ w) (2 ^ w) 1 ∙ mod-eq_of_lt (omega (arith, near, half, reached)) in
     lower w (ahead w ((r + (e + d)) % 2 ^ w) v) (omega (arith, is, near, reached))
 
 wide : (w : ℕ) → (w ≡ 32) ⊎ (w ≡ 64) → (11 ≤ 2 ^ (w - 1)) × (2 ^ (w - 1) ≤ 2 ^ w)

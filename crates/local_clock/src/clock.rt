@@ -1,10 +1,10 @@
-ghost use Rattle.std.specs.Prelude.{◌≡◌, ℕ, ◌+◌, ◌^◌, ◌<◌, ◌≤◌, pos, ⊤, IfSome, unsigned_abs};
+ghost use Rattle.std.specs.Prelude.{◌≡◌, ℕ, ◌+◌, ◌^◌, ◌<◌, ◌≤◌, pos, ⊤, IfSome, nat_le, unsigned_abs};
 ghost use Rattle.local_clock.specs.Reading.{advanced, corrected, reset_to, started, steering_of, ticks_to};
 ghost use Rattle.local_clock.specs.WorkedOff.{IsSteady};
-ghost use Rattle.osc_clock.specs.Ticks.{IsRunning};
+ghost use Rattle.osc_clock.specs.Ticks.{IsRunning, instant};
 ghost use Rattle.local_clock.specs.FirstReaching.{IsFirstReaching, tick_after, within_time};
 
-use crate::steps::{ticked, ticks_to_pass};
+use crate::steps::{share, ticked, ticks_to_pass};
 use osc_clock::Osc;
 use std::alloc::AllocError;
 use std::marker::Model;
@@ -22,11 +22,14 @@ pub struct LocalClock<W: ClockWord> {
     left: i64,
     count: u8,
     g: u8,
+    // What ticks are multiplied by, so that corrections are counted with no division by g.
+    share: u64,
 }
 
 impl<W: ClockWord> Model for LocalClock<W> {
     ghost use Rattle.osc_clock.specs.Ticks.{IsRunning, ticks};
     ghost use Rattle.local_clock.specs.Reading.{Clock};
+    ghost use Rattle.local_clock.specs.AtOnce.{share_of};
 
     ghost Value = { Clock };
 
@@ -35,13 +38,14 @@ impl<W: ClockWord> Model for LocalClock<W> {
     ghost view = { λ a. record { osc = a.osc; instant = a.instant; reading = W.number a.reading; left = a.left; count = a.count; g = a.g } };
 
     ghost invariant = { λ a. (a.count < a.g) × (a.left ≡ pos 0 → a.count ≡ 0) × (unsigned_abs a.left ≤ 2 ^ 31)
-        × (W.word (W.number a.reading) ≡ a.reading) × (a.taken ≡ ticks a.osc a.instant) × IsRunning a.osc };
+        × (W.word (W.number a.reading) ≡ a.reading) × (a.taken ≡ ticks a.osc a.instant) × (a.share ≡ share_of a.g) × IsRunning a.osc };
 
-    ghost inverse = { λ c. record { osc = c.osc; instant = c.instant; taken = ticks c.osc c.instant; reading = W.word c.reading; left = c.left; count = c.count; g = c.g } };
+    ghost inverse = { λ c. record { osc = c.osc; instant = c.instant; taken = ticks c.osc c.instant; reading = W.word c.reading; left = c.left; count = c.count; g = c.g; share = share_of c.g } };
 
-    ghost use Rattle.std.proofs.Common.{ap₂, sym};
+    ghost use Rattle.std.proofs.Common.{ap, ap₂, sym, ◌∙◌};
 
-    ghost inverse_ok = { λ a h. ap₂ (λ r n. record a { reading = r; taken = n }) h.3 (sym h.4) };
+    ghost inverse_ok = { λ a h. ap (λ m. record a { reading = W.word (W.number a.reading); taken = ticks a.osc a.instant; share = m }) (sym h.5)
+        ∙ ap₂ (λ r n. record a { reading = r; taken = n }) h.3 (sym h.4) };
 }
 
 impl<W: ClockWord> Clone for LocalClock<W> {
@@ -68,6 +72,7 @@ impl<W: ClockWord> LocalClock<W> {
             left: 0,
             count: 0,
             g,
+            share: share(g),
         }
     }
 
@@ -127,19 +132,53 @@ impl<W: ClockWord> LocalClock<W> {
         self.osc.ticks_until(t) - self.taken
     }
 
+    /// The same number, with no division where it is `guess` or one more: pass what an earlier interval of
+    /// about this length had.
+    pub fn ticks_near(&self, t: u64, guess: u64) -> u64
+        requires { self.now.instant ≤ t }
+        ensures { result ≡ ticks_to self.now t }
+    {
+        let low = self.taken.saturating_add(guess);
+        if low == 0 || low > u64::MAX - 2 || !self.has_come(low, t) || self.has_come(low + 2, t) {
+            return self.ticks_to(t);
+        }
+        if self.has_come(low + 1, t) {
+            guess + 1
+        } else {
+            guess
+        }
+    }
+
+    // Whether a tick is at or before `t`.
+    fn has_come(&self, tick: u64, t: u64) -> bool
+        requires { 1 ≤ tick }
+        ensures { result ≡ nat_le (instant self.now.osc tick) t }
+    {
+        self.osc.instant_of(tick) <= u128::from(t)
+    }
+
     /// Takes the ticks after its instant and at or before `t`, and stands at `t`.
     pub fn advance(&mut self, t: u64)
         requires { self.old.instant ≤ t }
         ensures is { self.new ≡ advanced W.WIDTH t self.old }
         ensures running { IsRunning self.new.osc }
     {
-        let ticks = self.osc.ticks_until(t);
-        let (elapsed, left, count) = ticked(self.left, self.count, self.g, ticks - self.taken);
+        self.advance_by(self.ticks_to(t), t);
+    }
+
+    /// The same, where the number of these ticks is known.
+    pub fn advance_by(&mut self, ticks: u64, t: u64)
+        requires later { self.old.instant ≤ t }
+        requires number { ticks ≡ ticks_to self.old t }
+        ensures is { self.new ≡ advanced W.WIDTH t self.old }
+        ensures running { IsRunning self.new.osc }
+    {
+        let (elapsed, left, count) = ticked(self.left, self.count, self.g, self.share, ticks);
         self.reading = self.reading.add((elapsed % (1 << 64)) as u64);
         self.left = left;
         self.count = count;
         self.instant = t;
-        self.taken = ticks;
+        self.taken += ticks;
     }
 
     /// Begins to work off a difference, in ns: above 0 where the clock is ahead.
@@ -158,6 +197,7 @@ impl<W: ClockWord> LocalClock<W> {
         self.left = 0;
         self.count = 0;
         self.g = g;
+        self.share = share(g);
     }
 
     /// The true time, in fs, of the first tick from now at which the reading is not behind `v`, where
@@ -167,13 +207,13 @@ impl<W: ClockWord> LocalClock<W> {
         ensures later { IfSome result (λ t. self.now.instant < t) }
         ensures running { IsRunning self.now.osc }
     {
-        let (step, _, _) = ticked(self.left, self.count, self.g, 1);
+        let (step, _, _) = ticked(self.left, self.count, self.g, self.share, 1);
         let ahead = self.reading.add(step as u64).diff(v);
         if ahead >= 0 {
             return self.instant_after(1);
         }
         let gap = step as u64 + ahead.unsigned_abs();
-        self.instant_after(ticks_to_pass(self.left, self.count, self.g, gap))
+        self.instant_after(ticks_to_pass(self.left, self.count, self.g, self.share, gap))
     }
 
     // When the k-th tick from now is.

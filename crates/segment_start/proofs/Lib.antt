@@ -1,3 +1,4 @@
 pub mod Registers
 pub mod Starts
 pub mod Times
+pub mod Visits

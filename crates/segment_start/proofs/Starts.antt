@@ -51,7 +51,7 @@ sound_by rows cycles r row tree slaves low = record {
   visits = visits_within rows tree slaves r low;
 }
 
-rows_many : (s : SegmentValue) → length (tree_rows s.rows) ≡ length s.rows
+pub rows_many : (s : SegmentValue) → length (tree_rows s.rows) ≡ length s.rows
 rows_many s = search (arith, length-map)
 
 sound_of : (s : SegmentValue) (r : ℕ) → IsLegal s → r < length s.rows → IsSound (round_trip (tree_rows s.rows)) 0 (slave_of s r)

@@ -4,4 +4,4 @@ pub mod NextEdges
 pub mod Exact
 pub mod Calls
 pub mod KeptOfSignal
-mod Beyond
+pub mod Spare

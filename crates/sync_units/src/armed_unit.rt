@@ -1,4 +1,4 @@
-ghost use Rattle.std.specs.Prelude.{◌≡◌, ◌≤◌, ◌+◌, ⊤, true, [], Some, MatchOption};
+ghost use Rattle.std.specs.Prelude.{◌≡◌, ◌≤◌, ◌+◌, ⊤, [], Some, MatchOption};
 ghost use Rattle.std.specs.Option.{option_map, option_map_or};
 ghost use Rattle.osc_clock.specs.Ticks.{IsRunning};
 ghost use Rattle.local_clock.specs.Reading.{ticks_to};
@@ -6,7 +6,7 @@ ghost use Rattle.local_clock.specs.FirstReaching.{is_behind, tick_after};
 ghost use Rattle.sync_units.specs.ClockCopy.{copy_of, copy_after};
 ghost use Rattle.sync_units.specs.SyncRule.{Due, armed_by, due_after_tick, raised, after_tick, tick_edges, after_ticks, ticks_edges};
 ghost use Rattle.sync_units.specs.KeptEdges.{put_all};
-ghost use Rattle.sync_units.specs.Quiet.{AreQuiet};
+ghost use Rattle.sync_units.specs.Quiet.{spare_of};
 ghost use Rattle.sync_units.specs.NextEdge.{IsNextEdge, IsNextEdge1, IsNextUnlessNow, IsNextUnlessNow1, IsFrom, IsFirst};
 
 use crate::edge::Signal;
@@ -101,20 +101,20 @@ impl<W: ClockWord> ArmedUnit<W> {
             list.new ≡ put_all (ticks_edges W.WIDTH copy (tick_after clock.now) (ticks_to clock.now t) self.old) list.old }
     {
         // A wire visits a clock far more often than an edge is due, and looking for one is dear.
-        if self.is_quiet(clock, offset, clock.ticks_to(t)) {
+        if clock.ticks_to(t) <= self.spare(clock, offset) {
             return;
         }
         self.raise_until(clock, offset, t, list);
     }
 
-    // Whether so many ticks of the clock are too few for an edge of either signal.
-    fn is_quiet(&self, clock: &LocalClock<W>, offset: W, ticks: u64) -> bool
-        ensures { result ≡ true → AreQuiet W.WIDTH (copy_after W.WIDTH clock.now (W.number offset)) ticks self.now }
+    /// So many ticks of the clock surely raise no edge of either signal, whatever the clock receives.
+    pub(crate) fn spare(&self, clock: &LocalClock<W>, offset: W) -> u64
+        ensures { result ≡ spare_of W.WIDTH (copy_of W.WIDTH clock.now (W.number offset)) (Some self.now) }
     {
-        let quiet = self.sync0.is_beyond(clock, offset, ticks);
+        let spare = self.sync0.spare(clock, offset);
         match self.sync1 {
-            Some(due) => quiet && due.is_beyond(clock, offset, ticks),
-            None => quiet,
+            Some(due) => spare.min(due.spare(clock, offset)),
+            None => spare,
         }
     }
 

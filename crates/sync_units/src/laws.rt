@@ -5,7 +5,10 @@ ghost use Rattle.osc_clock.specs.Ticks.{Oscillator, IsRunning, ticks, instant};
 ghost use Rattle.sync_units.specs.declared.edge.Edge.{Edge};
 ghost use Rattle.sync_units.specs.declared.edge.Signal.{Signal};
 ghost use Rattle.sync_units.specs.SyncRule.{Armed, armed_by, after_ticks, ticks_edges, unit_after, unit_edges};
-ghost use Rattle.sync_units.specs.Quiet.{AreQuiet};
+ghost use Rattle.local_clock.specs.Reading.{Clock, advanced, ticks_to};
+ghost use Rattle.sync_units.specs.ClockCopy.{copy_of};
+ghost use Rattle.sync_units.specs.Interval.{unit_at, edges_to};
+ghost use Rattle.sync_units.specs.Quiet.{AreQuiet, spare_of};
 ghost use Rattle.sync_units.specs.KeptEdges.{Kept, empty_list, put_all};
 ghost use Rattle.sync_units.specs.Edges.{EdgeAt, AreEdges, edges_of, first_edges};
 ghost use Rattle.sync_units.specs.Calls.{Call, AreInTurn, ticks_of_calls, copy_in, unit_after_calls, list_after_calls};
@@ -25,6 +28,13 @@ pub fn ticks_in_turn()
 pub fn quiet_ticks()
     ensures unit { (w : ℕ) (copy : ℕ → ℕ) (k : ℕ) (a : Armed) → AreQuiet w copy k a → after_ticks w copy k a ≡ a }
     ensures edges { (w : ℕ) (copy time : ℕ → ℕ) (k : ℕ) (a : Armed) → AreQuiet w copy k a → ticks_edges w copy time k a ≡ [] }
+{}
+
+/// Ticks that a unit can spare leave it as it is, and raise nothing; behind them it can spare what is left of them.
+pub fn spare_ticks()
+    ensures unit { (w offset t : ℕ) (c : Clock) (unit : Option Armed) → ticks_to c t ≤ spare_of w (copy_of w c offset) unit → unit_at w c offset t unit ≡ unit }
+    ensures edges { (w offset t : ℕ) (c : Clock) (unit : Option Armed) → ticks_to c t ≤ spare_of w (copy_of w c offset) unit → edges_to w c offset t unit ≡ [] }
+    ensures left { (w offset t : ℕ) (c : Clock) (unit : Option Armed) → spare_of w (copy_of w c offset) unit ≤ ticks_to c t + spare_of w (copy_of w (advanced w t c) offset) unit }
 {}
 
 /// A unit that was armed raises, up to tick n, exactly the edges of the definition, each once and in

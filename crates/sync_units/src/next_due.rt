@@ -1,10 +1,10 @@
-ghost use Rattle.std.specs.Prelude.{◌≡◌, ◌↔◌, true, ⊤, IsTrue};
+ghost use Rattle.std.specs.Prelude.{◌≡◌, true, ⊤};
 ghost use Rattle.osc_clock.specs.Ticks.{IsRunning};
 ghost use Rattle.local_clock.specs.FirstReaching.{is_behind};
 ghost use Rattle.sync_units.specs.ClockCopy.{copy_of};
 ghost use Rattle.sync_units.specs.SyncRule.{first_due, due_after_tick, raised};
 ghost use Rattle.sync_units.specs.KeptEdges.{put_all};
-ghost use Rattle.sync_units.specs.Quiet.{IsBeyond};
+ghost use Rattle.sync_units.specs.Quiet.{spare_to};
 ghost use Rattle.sync_units.specs.NextEdge.{IsNextEdge, IsNextUnlessNow};
 
 use crate::edge::Signal;
@@ -75,13 +75,16 @@ impl<W: ClockWord> NextDue<W> {
         clock.first_reaching(target)
     }
 
-    /// Whether the next edge is too far ahead for so many ticks of the clock, at which it then is not
-    /// raised. A tick takes 11 ns at most.
-    pub(crate) fn is_beyond(&self, clock: &LocalClock<W>, offset: W, ticks: u64) -> bool
-        ensures is { IsTrue result ↔ IsBeyond W.WIDTH (copy_of W.WIDTH clock.now (W.number offset)) self.now.value ticks }
+    /// So many ticks of the clock surely raise no edge, whatever the clock receives: a tick takes 11 ns at most.
+    pub(crate) fn spare(&self, clock: &LocalClock<W>, offset: W) -> u64
+        ensures { result ≡ spare_to W.WIDTH (copy_of W.WIDTH clock.now (W.number offset)) self.now.value }
     {
         let ahead = clock.reading().add(offset.value()).diff(self.value);
-        ahead < 0 && 11 * u128::from(ticks) < u128::from(ahead.unsigned_abs())
+        if ahead < 0 {
+            (ahead.unsigned_abs() - 1) / 11
+        } else {
+            0
+        }
     }
 
     /// Takes the tick at which the clock stands: raises the edge if the local copy has reached the due

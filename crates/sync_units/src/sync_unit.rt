@@ -1,5 +1,7 @@
 ghost use Rattle.std.specs.Prelude.{◌≡◌, ◌<◌, ◌≤◌, ⊤, Some, None, IfSome};
 ghost use Rattle.std.specs.Option.{option_map};
+ghost use Rattle.sync_units.specs.ClockCopy.{copy_of};
+ghost use Rattle.sync_units.specs.Quiet.{spare_of};
 ghost use Rattle.sync_units.specs.SyncRule.{armed_by};
 ghost use Rattle.sync_units.specs.Interval.{unit_at, edges_to};
 ghost use Rattle.sync_units.specs.KeptEdges.{put_all};
@@ -70,6 +72,17 @@ impl<W: ClockWord> SyncUnit<W> {
         ensures { option_map W.number result ≡ option_map (λ a. a.sync0.value) self.now }
     {
         self.armed.map(|unit| unit.next_due())
+    }
+
+    /// So many ticks of the clock surely raise no edge, whatever the clock receives: a tick takes 11 ns at most.
+    /// It is 2^64 - 1 where the unit is not armed. `offset` is the system time offset, in ns.
+    pub fn spare(&self, clock: &LocalClock<W>, offset: W) -> u64
+        ensures { result ≡ spare_of W.WIDTH (copy_of W.WIDTH clock.now (W.number offset)) self.now }
+    {
+        match self.armed {
+            Some(unit) => unit.spare(clock, offset),
+            None => u64::MAX,
+        }
     }
 
     /// Raises the edges of the clock's ticks after its instant and at or before `t`, in fs, into the list.

@@ -4,3 +4,4 @@ pub mod InOrder
 pub mod Through
 pub mod Step
 pub mod Starting
+pub mod Spared

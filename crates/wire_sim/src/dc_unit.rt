@@ -1,8 +1,13 @@
-ghost use Rattle.std.specs.Prelude.{◌≡◌, None, Some};
+ghost use Rattle.std.specs.Prelude.{◌≡◌, ◌≤◌, ◌<◌, ◌⊎◌, None, Some, IfSome};
 ghost use Rattle.std.specs.Option.{option_map};
 ghost use Rattle.esc_regs.specs.RegisterFile.{Registers};
+ghost use Rattle.local_clock.specs.Reading.{advanced, ticks_to};
+ghost use Rattle.sync_units.specs.ClockCopy.{copy_of};
+ghost use Rattle.sync_units.specs.KeptEdges.{empty_list};
+ghost use Rattle.sync_units.specs.Quiet.{spare_of};
+ghost use Rattle.sync_units.specs.SyncRule.{armed_by};
 ghost use Rattle.frame_pass.specs.SlaveState.{width};
-ghost use Rattle.frame_pass.specs.Advancing.{measuring_at, stamped};
+ghost use Rattle.frame_pass.specs.Advancing.{measuring_at, stamped, timing_at};
 ghost use Rattle.frame_pass.specs.LiveRegisters.{system_time, live};
 ghost use Rattle.wire_sim.specs.Seen.{measuring};
 
@@ -21,6 +26,11 @@ pub(crate) struct DcUnit<W: ClockWord> {
     pub(crate) sync: SyncUnit<W>,
     pub(crate) edges: EdgeList,
     pub(crate) input: LatchUnit<W>,
+    // So many ticks of the clock raise no edge as long as the offset is `offset`.
+    spare: u64,
+    offset: W,
+    // A guess at the ticks between two visits.
+    usual: u64,
 }
 
 impl<W: ClockWord> Model for DcUnit<W> {
@@ -29,6 +39,12 @@ impl<W: ClockWord> Model for DcUnit<W> {
     ghost Value = { Timing };
 
     ghost view = { λ a. record { clock = a.clock; unit = a.sync; edges = a.edges; event = a.input } };
+
+    ghost use Rattle.std.specs.Prelude.{◌≤◌};
+    ghost use Rattle.sync_units.specs.ClockCopy.{copy_of};
+    ghost use Rattle.sync_units.specs.Quiet.{spare_of};
+
+    ghost invariant = { λ a. a.spare ≤ spare_of W.WIDTH (copy_of W.WIDTH a.clock (W.number a.offset)) a.sync };
 }
 
 /// The unit of a slave by the width of its clock.
@@ -49,7 +65,29 @@ impl<W: ClockWord> DcUnit<W> {
             sync: SyncUnit::new(),
             edges,
             input: LatchUnit::new(),
+            spare: 0,
+            offset: W::cut(0),
+            usual: 0,
         }
+    }
+
+    /// Arms the SYNC unit as `SyncUnit::arm` does, and drops the edges of an earlier arming.
+    pub(crate) fn arm(&mut self, start: W, cycle: u32, sync1: Option<u32>)
+        requires cycle { 1000 ≤ cycle }
+        requires sync1 { IfSome sync1 (λ time. (1 ≤ time) × (time < cycle)) }
+        ensures { self.new ≡ record self.old { unit = Some (armed_by W.WIDTH (W.number start) cycle sync1); edges = empty_list self.old.edges.keep } }
+    {
+        self.sync.arm(start, cycle, sync1);
+        self.edges.clear();
+        self.spare = 0;
+    }
+
+    /// Disarms the SYNC unit, and leaves the edges.
+    pub(crate) fn disarm(&mut self)
+        ensures { self.new ≡ record self.old { unit = None } }
+    {
+        self.sync.disarm();
+        self.spare = 0;
     }
 
     /// Lets time go on to `t`, in fs: edges are raised, the expected event is stamped, and the clock counts.
@@ -64,11 +102,47 @@ impl<W: ClockWord> DcUnit<W> {
             return;
         }
         let offset = offset::<W>(registers);
+        let stamp = self.input.sample(&self.clock, offset, t);
+        self.count(offset, t);
+        set_stamp(registers, stamp);
+    }
+
+    // The same of the clock and its edges alone. Most visits are as far apart as the visit before them, and raise
+    // no edge, so that the ticks are guessed, and compared with those that are spare.
+    fn count(&mut self, offset: W, t: u64)
+        requires { self.old.clock.instant ≤ t }
+        ensures { self.new ≡ record (timing_at W.WIDTH (W.number offset) t self.old) { event = self.old.event } }
+    {
+        let ticks = self.clock.ticks_near(t, self.usual);
+        self.usual = guess_after(self.usual, ticks);
+        if ticks <= self.spare && offset.value() == self.offset.value() {
+            self.pass(ticks, t);
+        } else {
+            self.raise(offset, ticks, t);
+        }
+    }
+
+    // Counts so many ticks, which are spare.
+    fn pass(&mut self, ticks: u64, t: u64)
+        requires later { self.old.clock.instant ≤ t }
+        requires number { ticks ≡ ticks_to self.old.clock t }
+        ensures { self.new ≡ record self.old { clock = advanced W.WIDTH t self.old.clock } }
+    {
+        self.clock.advance_by(ticks, t);
+        self.spare = self.spare.saturating_sub(ticks);
+    }
+
+    // Raises the edges of so many ticks, counts these, and looks how many are spare from there on.
+    fn raise(&mut self, offset: W, ticks: u64, t: u64)
+        requires later { self.old.clock.instant ≤ t }
+        requires number { ticks ≡ ticks_to self.old.clock t }
+        ensures { self.new ≡ record (timing_at W.WIDTH (W.number offset) t self.old) { event = self.old.event } }
+    {
         self.sync
             .edges_until(&self.clock, offset, t, &mut self.edges);
-        let stamp = self.input.sample(&self.clock, offset, t);
-        self.clock.advance(t);
-        set_stamp(registers, stamp);
+        self.clock.advance_by(ticks, t);
+        self.spare = self.sync.spare(&self.clock, offset);
+        self.offset = offset;
     }
 
     /// The system time: the local copy less the delay, in ns.
@@ -90,6 +164,17 @@ impl<W: ClockWord> DcUnit<W> {
             system_time: Some(self.system_time(registers).value()),
             next_due: self.sync.next_due().map(|due| due.value()),
         }
+    }
+}
+
+// What to guess of the next interval. A guess that was right, or one too few, stays.
+fn guess_after(guess: u64, ticks: u64) -> u64
+    ensures { (result ≡ guess) ⊎ (result ≡ ticks) }
+{
+    if ticks.wrapping_sub(guess) <= 1 {
+        guess
+    } else {
+        ticks
     }
 }
 

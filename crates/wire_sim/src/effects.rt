@@ -88,10 +88,9 @@ fn activate<W: ClockWord>(registers: &RegFile, unit: &mut DcUnit<W>, activation:
     let cycle = registers.get(Sync0Cycle::new());
     if arms(byte, cycle) {
         let start = word(registers, StartTime::new());
-        unit.sync.arm(start, cycle, sync1(registers, byte, cycle));
-        unit.edges.clear();
+        unit.arm(start, cycle, sync1(registers, byte, cycle));
     } else {
-        unit.sync.disarm();
+        unit.disarm();
     }
 }
 

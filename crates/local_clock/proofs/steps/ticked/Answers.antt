@@ -21,6 +21,13 @@ minus z l d f some fits e = let a = above_zero z some in omega (arith, ints)
 plus : (z l : ℤ) (d : ℕ) → FitsSigned w64 z → unsigned_abs z ≤ 2 ^ 31 → z ≤ℤ pos 0 → d ≤ unsigned_abs z → l ≡ z +ℤ pos d → to_z w64 (of_z w64 (to_z w64 (of_z w64 z) +ℤ to_z w64 d)) ≡ l
 plus z l d f small most fits e = let a : z ≡ neg_ℤ (pos (unsigned_abs z)) = below_zero z most ∙ signed_true (unsigned_abs z) in omega (arith, ints)
 
+pub overflow_sub-result : goal.overflow_sub-result
+overflow_sub-result c =
+    let some : pos 0 <ℤ c.args.left = grind (arith, ints) in
+    let size : c.unsigned_abs.result ≡ unsigned_abs c.args.left = c.unsigned_abs.ensures.value ∙ ap unsigned_abs (to_z-of_z w64 c.args.left c.ranges.left) in
+    let t = above c.args.left c.unsigned_abs.result c.args.count c.args.g c.args.k c.corrections-done.result.0 c.corrections-done.result.1 some size c.requires.below c.corrections-done.ensures.done c.corrections-done.ensures.counted in
+    omega (arith, t.elapsed, c.from.ensures, c.from-ticks.ensures)
+
 pub returns-then-left-gt0 : goal.returns-then-left-gt0
 returns-then-left-gt0 c =
     let some : pos 0 <ℤ c.args.left = grind (arith, ints) in

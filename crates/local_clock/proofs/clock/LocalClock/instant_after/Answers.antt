@@ -11,12 +11,12 @@ returns-in_err-tick-clause-at g c =
       | inl fits ↦ absurd (c.in_err-tick.ensures fits)
       | inr over ↦ over
     ] in
-    let run = subst (λ v. IsRunning v.osc) c.self.view_is c.self.invariant.5 in
+    let run = subst (λ v. IsRunning v.osc) c.self.view_is c.self.invariant.6 in
     let is = c.self.invariant.4 ∙ ap (λ v. ticks v.osc v.instant) c.self.view_is in
     c.from_residual.ensures ∙ sym (no_tick_within c.args.self.now c.self.inside.taken c.args.k run is over)
 
 pub returns-clause-later : goal.returns-clause-later
 returns-clause-later g c =
-    let run = subst (λ v. IsRunning v.osc) c.self.view_is c.self.invariant.5 in
+    let run = subst (λ v. IsRunning v.osc) c.self.view_is c.self.invariant.6 in
     let is : c.ok.result ≡ within_time (tick_after c.args.self.now c.args.k) = search rules in
     rw is (later_within c.args.self.now c.args.k run c.requires)
