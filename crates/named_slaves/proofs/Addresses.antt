@@ -1,11 +1,11 @@
 -- What datagrams leave of a station address.
-use Rattle.std.proofs.Common.{◌≡◌, ℕ, suc, ◌+◌, ◌-◌, ◌%◌, ◌^◌, ◌<◌, ◌≤◌, ◌⊎◌, List, [], ◌∷◌, length, drop, Bool, true, false, refl, sym, ap, ap₂, ◌∙◌, arith, inl, inr}
+use Rattle.std.proofs.Common.{◌≡◌, ℕ, suc, ◌-◌, ◌^◌, ◌<◌, ◌⊎◌, [], length, Bool, true, false, refl, sym, ap, ap₂, ◌∙◌, arith, inl, inr}
 use Rattle.std.specs.Prelude.{if◌then◌else◌, ◌==◌}
 use Rattle.std.proofs.lemmas.Bool.{eqb-true}
 use Rattle.std.proofs.lemmas.Bool.Decides.{nat_tests}
 use Rattle.std.proofs.lemmas.List.{append-nil}
 use Rattle.byteorder.specs.Endian.{little_bytes, little_number}
-use Rattle.byteorder.specs.Numbers.{little_number-reads_back, length-bytes_low_first}
+use Rattle.byteorder.specs.Numbers.{little_number-reads_back}
 use Rattle.wrap_time.specs.WordLess.{word_less}
 use Rattle.ecat_frame.specs.FrameGrammar.{DatagramValue}
 use Rattle.ecat_frame.specs.declared.command.Command.{Command}
@@ -25,8 +25,8 @@ use Rattle.frame_pass.proofs.Sizes.{HasSize}
 use Rattle.visit_laws.proofs.Asides.{is_plain, idle, same_size}
 use Rattle.visit_laws.proofs.Drifting.{left_unwritten, kept_unread}
 use Rattle.visit_laws.proofs.Storage.{stores_number}
-use Rattle.named_slaves.specs.Standing.{IsSlave, HasAddress, own_address, Stands}
-use Rattle.named_slaves.specs.Mindful.{Names, IsMindful, AreMindful}
+use Rattle.named_slaves.specs.Standing.{HasAddress, own_address, Stands}
+use Rattle.named_slaves.specs.Mindful.{Names, IsMindful}
 use Rattle.named_slaves.proofs.Parts.{slave_stays}
 
 -- the address is left where the datagram writes nothing of it

@@ -1,7 +1,7 @@
 -- Who answers a datagram, and what its counter becomes.
-use Rattle.std.proofs.Common.{◌≡◌, ℕ, zero, suc, ◌+◌, ◌^◌, ◌<◌, ◌≤◌, ◌⊎◌, List, [], ◌∷◌, length, Option, Some, None, Bool, true, false, nat_lt, refl, sym, ap, ap₂, subst, ◌∙◌, arith, inl, inr}
-use Rattle.std.specs.Prelude.{◌≢◌, ◌==◌, slice_get, take, if◌then◌else◌}
-use Rattle.std.specs.List.{sum_by, AllByRecursion}
+use Rattle.std.proofs.Common.{◌≡◌, ℕ, zero, suc, ◌+◌, ◌≤◌, List, [], ◌∷◌, length, Option, Some, Bool, true, false, nat_lt, refl, sym, ap, ap₂, ◌∙◌, arith, inl, inr}
+use Rattle.std.specs.Prelude.{◌==◌, slice_get, take, if◌then◌else◌}
+use Rattle.std.specs.List.{sum_by}
 use Rattle.std.proofs.lemmas.Bool.Decides.{nat_tests}
 use Rattle.ecat_frame.specs.FrameGrammar.{DatagramValue}
 use Rattle.ecat_frame.specs.declared.command.Command.{Command}
@@ -9,13 +9,13 @@ use Rattle.ecat_frame.specs.declared.command.Command.TheVariants.{Nop, Aprd, Apw
 use Rattle.esc_regs.specs.RegisterAccess.{is_refused}
 use Rattle.esc_regs.specs.declared.clock_kind.ClockKind.{ClockKind}
 use Rattle.frame_pass.specs.SlaveState.{Slave, station}
-use Rattle.frame_pass.specs.DatagramTable.{Passes, Writes, doing_by, gain, raised_by}
-use Rattle.frame_pass.specs.DatagramAtSlave.{is_refused_by, doing, slave_after, datagram_after, asked}
+use Rattle.frame_pass.specs.DatagramTable.{Passes, doing_by, gain, raised_by}
+use Rattle.frame_pass.specs.DatagramAtSlave.{is_refused_by, doing, slave_after, datagram_after}
 use Rattle.frame_pass.specs.FramePass.{at_arrival, datagrams_passed, datagrams_behind}
 use Rattle.frame_pass.proofs.Fixed.{fixed_advanced}
 use Rattle.frame_pass.proofs.Sizes.{HasSize}
 use Rattle.visit_laws.specs.Counters.{slave_before, doing_in, gains}
-use Rattle.visit_laws.specs.Stations.{slave_found, IsAlone, BringsBack, IsReceived}
+use Rattle.visit_laws.specs.Stations.{slave_found, IsAlone, BringsBack}
 use Rattle.visit_laws.specs.Aside.{HaveSize}
 use Rattle.visit_laws.specs.Drift.{first_behind}
 use Rattle.visit_laws.proofs.Asides.{same_size}
@@ -23,8 +23,8 @@ use Rattle.visit_laws.proofs.Counting.{passed_at, does_at, is_sent, all_gain, on
 use Rattle.visit_laws.proofs.Drifting.{passes_refused, first_is}
 use Rattle.visit_laws.proofs.Effects.{size_advanced}
 use Rattle.visit_laws.proofs.Latching.{size_after}
-use Rattle.visit_laws.proofs.Stations.{Found, found, IsByStation, arrives, passed_on, station_read, station_written}
-use Rattle.named_slaves.specs.Standing.{HasAddress, own_address, Stands, AreStanding}
+use Rattle.visit_laws.proofs.Stations.{found, IsByStation, arrives, passed_on, station_read, station_written}
+use Rattle.named_slaves.specs.Standing.{HasAddress, own_address, AreStanding}
 use Rattle.named_slaves.specs.Mindful.{Names, AreMindful}
 use Rattle.named_slaves.specs.Addressed.{ByStation}
 use Rattle.named_slaves.specs.Broadcasts.{asks_all, accepting}

@@ -1,19 +1,17 @@
 -- What frames leave of slaves by position.
-use Rattle.std.proofs.Common.{◌≡◌, ℕ, zero, suc, ◌+◌, ◌<◌, ◌≤◌, ◌⊎◌, List, [], ◌∷◌, length, Option, Some, None, Bool, true, false, nat_lt, refl, sym, ap, subst, ◌∙◌, arith, inl, inr}
+use Rattle.std.proofs.Common.{◌≡◌, ℕ, zero, suc, ◌+◌, ◌<◌, ◌≤◌, List, [], ◌∷◌, length, Option, Some, None, Bool, true, nat_lt, refl, sym, ap, subst, ◌∙◌, arith, inl, inr}
 use Rattle.std.specs.Prelude.{slice_get, IfSome}
 use Rattle.std.specs.List.{AllByRecursion}
 use Rattle.std.proofs.lemmas.Bool.{cases_lt, cases_eq}
 use Rattle.std.proofs.lemmas.List.{length-map}
 use Rattle.std.proofs.lemmas.Bool.Decides.{nat_tests}
 use Rattle.ecat_frame.specs.FrameGrammar.{DatagramValue, FrameValue}
-use Rattle.esc_regs.specs.RegisterTable.{features}
 use Rattle.esc_regs.specs.declared.clock_kind.ClockKind.{ClockKind}
 use Rattle.frame_pass.specs.SlaveState.{Timing, Slave, holds, station, fixed_part}
 use Rattle.frame_pass.specs.Advancing.{advanced_to}
 use Rattle.frame_pass.specs.DatagramAtSlave.{slave_after, datagram_after}
 use Rattle.frame_pass.specs.FramePass.{slave_behind, slave_passed, datagrams_after, datagrams_passed, datagrams_behind, at_arrival, end_of}
 use Rattle.frame_pass.specs.Invariants.{IsSound, IsSoundSegment}
-use Rattle.frame_pass.specs.PlainRegisters.{IsPlain}
 use Rattle.frame_pass.specs.Reach.{reach_of}
 use Rattle.frame_pass.specs.SegmentState.{SegmentState, segment_step, leaves_at}
 use Rattle.frame_pass.proofs.AtPositions.{step_reached, step_stays}
@@ -28,8 +26,8 @@ use Rattle.visit_laws.proofs.Drifting.{first_is}
 use Rattle.visit_laws.specs.Stations.{slave_found}
 use Rattle.visit_laws.proofs.Asides.{is_plain}
 use Rattle.visit_laws.proofs.Effects.{size_advanced}
-use Rattle.named_slaves.specs.Standing.{IsSlave, HasAddress, own_address, Stands, AreStanding}
-use Rattle.named_slaves.specs.Mindful.{Names, IsMindful, AreMindful}
+use Rattle.named_slaves.specs.Standing.{IsSlave, HasAddress, Stands, AreStanding}
+use Rattle.named_slaves.specs.Mindful.{Names, AreMindful}
 use Rattle.named_slaves.proofs.Parts.{slave_stays, features_plain, status_plain}
 use Rattle.named_slaves.proofs.Addresses.{stands_after, mindful_after, named_here, names_next}
 
@@ -194,7 +192,7 @@ low_where [] q s is = absurd (let z = is in cc)
 low_where (v ∷ ss) zero s is = omega arith
 low_where (v ∷ ss) (suc q) s is = let low = low_where ss q s is in omega (arith, low)
 
-same_many : (s : SegmentState) (wait : ℕ) (f : FrameValue) → length (segment_step s wait f).0.slaves ≡ length s.slaves
+pub same_many : (s : SegmentState) (wait : ℕ) (f : FrameValue) → length (segment_step s wait f).0.slaves ≡ length s.slaves
 same_many s wait f =
     sym (length-map (segment_step s wait f).0.slaves fixed_part) ∙ ap length (same_step s wait f).slaves ∙ length-map s.slaves fixed_part
 
