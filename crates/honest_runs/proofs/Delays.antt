@@ -1,9 +1,11 @@
 -- What is kept behind a commissioning that ended with Ok.
-use Rattle.std.proofs.Common.{◌≡◌, ℕ, ◌<◌, ◌≤◌, Bool, true, false, List, [], length, map, Option, Some, None, Ok, refl, sym, ap, subst, ◌∙◌, arith, inl, inr}
+use Rattle.std.proofs.Common.{◌≡◌, ℕ, ◌<◌, ◌≤◌, Bool, true, false, List, [], length, map, Option, Some, None, Ok, refl, sym, ap, subst, ◌∙◌, arith, inl, inr, zero, suc, ap₂, ◌∷◌, ◌+◌}
 use Rattle.std.specs.Prelude.{slice_index_or, if◌then◌else◌}
+use Rattle.std.specs.List.{range_with_len}
 use Rattle.std.specs.Option.{is_some}
-use Rattle.std.proofs.lemmas.List.{get_or_past}
-use Rattle.std.proofs.lemmas.List.FromFn.{get_or-map-range_with_len, length-map-range_with_len}
+use Rattle.std.proofs.lemmas.List.{get_or_past, get_or-map, length-map}
+use Rattle.std.proofs.lemmas.List.FromFn.{get_or-map-range_with_len, length-map-range_with_len, fill_by_all}
+use Rattle.cable_tree.specs.FrameOrder.{order}
 use Rattle.cable_tree.specs.Positions.{position_of}
 use Rattle.dc_bounds.specs.Weight.{flag}
 use Rattle.dc_delay.specs.ShapeRows.{positions}
@@ -22,7 +24,7 @@ use Rattle.master_script.proofs.Calls.{commission_done}
 use Rattle.master_script.proofs.Within.{hung_length}
 use Rattle.segment_file.specs.Legal.{IsLegal}
 use Rattle.segment_file.specs.Segment.{SegmentValue, tree_rows, clock_at}
-use Rattle.segment_file.proofs.LegalLemmas.{legal_reference}
+use Rattle.segment_file.proofs.LegalLemmas.{legal_reference, order_many}
 use Rattle.segment_shape.specs.Slaves.{has_clock}
 use Rattle.segment_start.specs.Start.{started_segment}
 use Rattle.honest_replies.specs.Told.{words_of}
@@ -38,6 +40,19 @@ use Rattle.honest_runs.proofs.Runs.{commissioned_honest}
 
 nothing_past : (f : ℕ → Option ℕ) (n p : ℕ) → n ≤ p → slice_index_or (map f (positions n)) p None ≡ None
 nothing_past f n p high = get_or_past (map f (positions n)) p None (let long = length-map-range_with_len f 0 n in omega (arith, long, high))
+
+-- of a list of what is there by a flag, what is there
+marks : (timed : ℕ → Bool) (number : ℕ → ℕ) (ps : List ℕ) → map is_some (map (λ r. if timed r then Some (number r) else None) ps) ≡ map timed ps
+marks timed number [] = refl
+marks timed number (p ∷ ps) = ap₂ (λ (b : Bool) (bs : List Bool). b ∷ bs) (by (timed p)) (marks timed number ps)
+  where
+    by : (b : Bool) → is_some (if b then Some (number p) else None) ≡ b
+    by true = refl
+    by false = refl
+
+map_same : (f g : ℕ → Bool) (a m : ℕ) → ((p : ℕ) → p < a + m → f p ≡ g p) → map f (range_with_len a m) ≡ map g (range_with_len a m)
+map_same f g a zero each = refl
+map_same f g a (suc m) each = ap₂ (λ (b : Bool) (bs : List Bool). b ∷ bs) (each a (omega arith)) (map_same f g (a + 1) m (λ p low. each p (omega (arith, low))))
 
 -- the settle phase begins there
 settling_begins : (s : SegmentValue) (run : RunEnd) → commissioned s ≡ Some run → run.answer ≡ Ok tt → Begins (master_of s) Settling (progress (master_of s) run.exchanges)
@@ -97,6 +112,20 @@ module _ (s : SegmentValue) (legal : IsLegal s) (run : RunEnd) (is : commissione
       ap (λ ds. is_some (slice_index_or ds p None)) kept_delays
       ∙ ap is_some (get_or-map-range_with_len _ 0 (length (hung_of (progress (master_of s) run.exchanges).words)) p p None (omega (arith, low, many)) (omega arith))
       ∙ some_if _ _ ∙ told_clock p low ∙ row_has has_clock s legal p low
+
+  -- in one equation: a delay exactly where a clock stands
+  pub delays_whole : map is_some (master_after s None run.exchanges).delays ≡ map (clock_at s.rows) (order (tree_rows s.rows))
+  unfolding delays_of
+  delays_whole =
+      let n = length s.rows in
+      let rows = order (tree_rows s.rows) in
+      let many = order_many s legal in
+      ap (map is_some) kept_delays
+      ∙ marks _ _ (positions (length (hung_of (progress (master_of s) run.exchanges).words)))
+      ∙ ap (λ k. map (flag (map is_clock (progress (master_of s) run.exchanges).words.slaves)) (positions k)) hung_many
+      ∙ map_same _ (λ q. clock_at s.rows (row_at s q)) 0 n (λ q less. let low : q < n = omega (arith, less) in told_clock q low ∙ row_has has_clock s legal q low)
+      ∙ sym (fill_by_all (λ q. clock_at s.rows (row_at s q)) (map (clock_at s.rows) rows) n false (length-map rows (clock_at s.rows) ∙ many)
+      (λ k low. get_or-map (clock_at s.rows) rows k 0 false (omega (arith, low, many))))
 
   pub delays_past : (p : ℕ) → length s.rows ≤ p → slice_index_or (master_after s None run.exchanges).delays p None ≡ None
   unfolding delays_of

@@ -1,7 +1,8 @@
 //! Laws over the definitions alone, for proofs of the layers above. They speak of any legal segment.
 
-ghost use Rattle.std.specs.Prelude.{◌≡◌, ℕ, ◌<◌, ◌≤◌, length, filter, Some, None, Ok, Err, slice_index_or};
+ghost use Rattle.std.specs.Prelude.{◌≡◌, ℕ, ◌<◌, ◌≤◌, length, map, filter, Some, None, Ok, Err, slice_index_or};
 ghost use Rattle.std.specs.Option.{is_some};
+ghost use Rattle.cable_tree.specs.FrameOrder.{order};
 ghost use Rattle.dc_delay.specs.ShapeRows.{positions};
 ghost use Rattle.master_script.specs.Slaves.{clocks, judgement, measuring};
 ghost use Rattle.master_script.specs.Progress.{progress};
@@ -9,7 +10,7 @@ ghost use Rattle.master_script.specs.declared.step.MasterError.{MasterError};
 ghost use Rattle.master_script.specs.declared.step.MasterError.TheVariants.{Refused};
 ghost use Rattle.master_script.specs.declared.step.Refusal.TheVariants.{Lost};
 ghost use Rattle.master_script.specs.declared.step.Step.{Step};
-ghost use Rattle.segment_file.specs.Segment.{SegmentValue, clock_at, measures_at};
+ghost use Rattle.segment_file.specs.Segment.{SegmentValue, clock_at, measures_at, tree_rows};
 ghost use Rattle.segment_file.specs.Legal.{IsLegal};
 ghost use Rattle.segment_start.specs.Start.{started_segment};
 ghost use Rattle.honest_replies.specs.Told.{AreInOrder, words_of};
@@ -47,6 +48,8 @@ pub fn commissioning_tells_all()
     ensures told { (s : SegmentValue) (run : RunEnd) (r : ℕ) → IsLegal s → commissioned s ≡ Some run → (progress (master_of s) run.exchanges).words.reference ≡ Some r
         → (progress (master_of s) run.exchanges).words.slaves ≡ words_of (kind_at s) (status_at s) (length s.rows) }
     ensures reference { (s : SegmentValue) (run : RunEnd) → IsLegal s → commissioned s ≡ Some run → run.answer ≡ Ok tt → (r : ℕ) × ((progress (master_of s) run.exchanges).words.reference ≡ Some r) }
+    ensures whole { (s : SegmentValue) (run : RunEnd) → IsLegal s → commissioned s ≡ Some run → run.answer ≡ Ok tt
+        → map is_some (master_after s None run.exchanges).delays ≡ map (clock_at s.rows) (order (tree_rows s.rows)) }
     ensures delays { (s : SegmentValue) (run : RunEnd) (p : ℕ) → IsLegal s → commissioned s ≡ Some run → run.answer ≡ Ok tt → p < length s.rows
         → is_some (slice_index_or (master_after s None run.exchanges).delays p None) ≡ clock_at s.rows (row_at s p) }
     ensures past { (s : SegmentValue) (run : RunEnd) (p : ℕ) → IsLegal s → commissioned s ≡ Some run → run.answer ≡ Ok tt → length s.rows ≤ p
