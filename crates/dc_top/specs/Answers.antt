@@ -5,9 +5,9 @@ use Rattle.dc_base.specs.Told.{AppendsFront, Drained, HasMore}
 use Rattle.dc_bench.specs.BenchState.{BenchState}
 use Rattle.dc_show.specs.Shown.{Shows, Refuses}
 use Rattle.master_script.specs.Script.{Answer}
-use Rattle.master_script.specs.declared.step.MasterError.{MasterError}
 use Rattle.master_script.specs.declared.step.MasterError.TheVariants.{Refused}
 use Rattle.master_script.specs.declared.step.Refusal.TheVariants.{Lost as LostStep}
+use Rattle.master_script.specs.declared.step.Step.{Step}
 use Rattle.segment_file.specs.Segment.{SegmentValue}
 use Rattle.segment_file.specs.Told.{IsSegmentText, IsTold}
 use Rattle.segment_file.specs.declared.seg_error.SegError.TheVariants as error
@@ -41,21 +41,11 @@ abbrev pub IsTable : List ℕ → List ℕ → Option BenchState → Type 0
 IsTable bytes text None = ⊥
 IsTable bytes text (Some b) = IsTableOf bytes text b
 
--- the bytes are a legal file, and commissioning its segment ended in this error
-pub record IsRefusedRun (bytes : List ℕ) (error : MasterError) (bench : Option BenchState) : Type 0 where
+-- the bytes are a legal file, and in commissioning its segment no try of this step came back
+pub record IsLostRun (bytes : List ℕ) (step : Step) (bench : Option BenchState) : Type 0 where
   pub segment : SegmentValue
   pub legal : IsSegmentText bytes segment
-  pub run : HoldsRun segment None (commissioned segment) (Err error) bench
-
--- the same, in another error than that a step was lost; none comes over the wire of a legal file, which is not proved yet
-abbrev pub IsOther : MasterError → Type 0
-IsOther (Refused (LostStep step)) = ⊥
-IsOther error = ⊤
-
-pub record IsOtherwiseRefused (bytes : List ℕ) (bench : Option BenchState) : Type 0 where
-  pub error : MasterError
-  pub other : IsOther error
-  pub refused : IsRefusedRun bytes error bench
+  pub run : HoldsRun segment None (commissioned segment) (Err (Refused (LostStep step))) bench
 
 -- the bytes are a legal file, and the text is its line of numbers
 pub record IsChecked (bytes text : List ℕ) : Type 0 where
@@ -75,8 +65,7 @@ RefusedSegment o bytes bench = ⊥
 
 -- what a refusal of `delays` says of them
 abbrev pub RefusedDelays : Outcome → List ℕ → Option BenchState → Type 0
-RefusedDelays (Lost step) bytes bench = IsRefusedRun bytes (Refused (LostStep step)) bench
-RefusedDelays NotYet bytes bench = IsOtherwiseRefused bytes bench
+RefusedDelays (Lost step) bytes bench = IsLostRun bytes step bench
 RefusedDelays o bytes bench = RefusedSegment o bytes bench
 
 -- what a refusal of `show` says of them

@@ -1,9 +1,6 @@
 -- What is in memory, as the definitions see it.
 use Rattle.segment_file.specs.declared.seg_error.SegError.{SegError}
 use Rattle.segment_file.specs.declared.seg_error.SegError.TheVariants as error
-use Rattle.master_script.specs.declared.step.MasterError.{MasterError}
-use Rattle.master_script.specs.declared.step.MasterError.TheVariants.{Refused}
-use Rattle.master_script.specs.declared.step.Refusal.TheVariants.{Lost}
 use Rattle.dc_top.specs.SegFaults.{error_of}
 use Rattle.dc_top.specs.declared.outcome.Outcome.{Outcome}
 use Rattle.dc_top.specs.declared.outcome.Outcome.TheVariants as outcome
@@ -21,8 +18,3 @@ abbrev pub outcome_of : Refusal → Outcome
 outcome_of refusal.BadText = outcome.BadText
 outcome_of (refusal.BadSegment fault) = outcome.BadSegment fault
 outcome_of refusal.NoMemory = outcome.NoMemory
-
--- the answer to an error of the master
-abbrev pub outcome_of_error : MasterError → Outcome
-outcome_of_error (Refused (Lost step)) = outcome.Lost step
-outcome_of_error error = outcome.NotYet

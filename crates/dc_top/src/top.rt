@@ -1,6 +1,9 @@
 // The top call.
 ghost use Rattle.std.specs.Prelude.{◌≡◌, ◌<◌, ◌≤◌, ◌↔◌, ℕ, List, map, length, string_bytes, Some, None, Err, IfOk, IfErr};
+ghost use Rattle.master_script.specs.declared.step.MasterError.TheVariants.{Refused};
+ghost use Rattle.master_script.specs.declared.step.Refusal.TheVariants.{Lost};
 ghost use Rattle.master_script.specs.declared.step.Stage.{Stage};
+ghost use Rattle.master_script.specs.declared.step.Step.{Step as LostStep};
 ghost use Rattle.segment_file.specs.Told.{IsSegmentText};
 ghost use Rattle.dc_top.specs.Called.{IsNew};
 ghost use Rattle.dc_base.specs.Causes.{Rose};
@@ -9,7 +12,6 @@ ghost use Rattle.dc_top.specs.Answers.{IsTable, IsChecked, Idle, RefusedSegment,
 ghost use Rattle.dc_base.specs.Told.{Gave};
 ghost use Rattle.dc_show.specs.Shown.{Shows};
 ghost use Rattle.dc_top.specs.RunReports.{table_text};
-ghost use Rattle.dc_top.specs.Seen.{outcome_of_error};
 ghost use Rattle.dc_top.specs.Written.{Wrote};
 ghost use Rattle.dc_words.specs.CommandOfWords.{command_of};
 
@@ -20,7 +22,7 @@ use crate::reports::table;
 use crate::segment_input::{outcome_of, segment_in};
 use dc_base::{ReadAllError, Sink, Source, read_all, write_whole};
 use dc_bench::Bench;
-use dc_master::{MasterError, Refusal};
+use dc_master::{MasterError, Refusal, Step};
 use dc_show::ShowError;
 use dc_words::{Command, read_words};
 use segment_file::Segment;
@@ -192,15 +194,16 @@ fn commission_and_write<O: Sink>(
     bench: &mut Bench,
     output: &mut O,
 ) -> Outcome
+    requires new { IsNew segment.now bench.old }
     requires stage { bench.old.master.stage ≡ Stage.Fresh }
     requires refusal { bench.old.master.refusal ≡ None }
-    ensures served { (bytes : List ℕ) → IsNew segment.now bench.old → IsSegmentText bytes segment.now
+    ensures served { (bytes : List ℕ) → IsSegmentText bytes segment.now
         → Served IsTable RefusedDelays result bytes (O.taken output.old) (O.taken output.new) (Some bench.new) }
     ensures fault { result ≡ WriteFault → Rose (O.faults output.old) (O.faults output.new) }
 {
     match commission(bench) {
         Ok(()) => write_table(alloc, segment, bench, output),
-        Err(error) => refused(error),
+        Err(error) => Outcome::Lost(lost_step(error)),
     }
 }
 
@@ -218,12 +221,13 @@ fn write_table<O: Sink>(alloc: Global, segment: &Segment, bench: &Bench, output:
     }
 }
 
-// The answer to an error of the master.
-fn refused(error: MasterError) -> Outcome
-    ensures { result ≡ outcome_of_error error }
+// The step that was lost: over the wire of a legal file a master's call ends with no other error.
+fn lost_step(error: MasterError) -> Step
+    requires { (step : LostStep) × (error ≡ Refused (Lost step)) }
+    ensures { error ≡ Refused (Lost result) }
 {
     match error {
-        MasterError::Refused(Refusal::Lost(step)) => Outcome::Lost(step),
-        _ => Outcome::NotYet,
+        MasterError::Refused(Refusal::Lost(step)) => step,
+        _ => unreachable!(),
     }
 }

@@ -49,7 +49,7 @@ never Lrw z o e = refl
 never Armw z o e = absurd (let x = e in cc)
 never Frmw z o e = absurd (let x = e in cc)
 
-idle : (s : Slave) (d : DatagramValue) → never_writes d.head.command ≡ true → writes (doing s d) ≡ false
+pub idle : (s : Slave) (d : DatagramValue) → never_writes d.head.command ≡ true → writes (doing s d) ≡ false
 unfolding doing
 idle s d e = by (is_refused_by s d) refl
   where
@@ -69,7 +69,7 @@ apart_where_written at n own s d is (inr (inl e)) w =
 apart_where_written at n own s d is (inr (inr far)) w = far
 
 -- the station stays
-is_plain : IsPlain 0x0010 2
+pub is_plain : IsPlain 0x0010 2
 is_plain = record { ports = inr (omega arith); unit = inr (omega arith); difference = inr (omega arith); status = inr (omega arith); stamp = inr (omega arith) }
 
 station_after : (s : Slave) (d : DatagramValue) → HasSize s.registers → (writes (doing s d) ≡ true → AreApart d.head.ado (length d.payload) 0x0010 2) → station (slave_after s d).registers ≡ station s.registers
@@ -109,7 +109,7 @@ merged_data : (o : Option (List ℕ)) (payload : List ℕ) → length (data_with
 merged_data None payload = refl
 merged_data (Some bytes) payload = merged_length payload bytes
 
-same_size : (s : Slave) (d : DatagramValue) → HasSize s.registers → length (datagram_after s d).payload ≡ length d.payload
+pub same_size : (s : Slave) (d : DatagramValue) → HasSize s.registers → length (datagram_after s d).payload ≡ length d.payload
 unfolding datagram_after payload_after
 same_size s d size = by (reads (doing s d)) (merges d.head.command) refl refl
   where

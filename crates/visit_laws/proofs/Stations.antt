@@ -20,7 +20,7 @@ pub record Found (o : Option DatagramValue) : Type 0 where
   pub datagram : DatagramValue
   pub is : o ≡ Some datagram
 
-found : (k h sent : ℕ) (ss : List Slave) (ds : List DatagramValue) (d : DatagramValue) → slice_get ds k ≡ Some d → Found (slice_get (datagrams_behind h sent ss ds) k)
+pub found : (k h sent : ℕ) (ss : List Slave) (ds : List DatagramValue) (d : DatagramValue) → slice_get ds k ≡ Some d → Found (slice_get (datagrams_behind h sent ss ds) k)
 unfolding datagrams_behind
 found k zero sent ss ds d is = record { datagram = d; is = is }
 found k (suc h) sent [] ds d is = record { datagram = d; is = is }
@@ -47,7 +47,7 @@ by_station d e same (inl c) = inl (same ∙ c)
 by_station d e same (inr c) = inr (same ∙ c)
 
 -- every other slave passes it on
-passed_on : (k q h sent : ℕ) (ss : List Slave) (ds : List DatagramValue) (d : DatagramValue) → slice_get ds k ≡ Some d → IsByStation d → IsAlone d.head.adp k q h sent ss ds
+pub passed_on : (k q h sent : ℕ) (ss : List Slave) (ds : List DatagramValue) (d : DatagramValue) → slice_get ds k ≡ Some d → IsByStation d → IsAlone d.head.adp k q h sent ss ds
     → (i : ℕ) (v : Slave) → i < h → slice_get ss i ≡ Some v → i ≢ q → doing_in k (at_arrival sent v) (datagrams_behind i sent ss ds) ≡ Passes
 passed_on k q h sent ss ds d is c alone i v low there far =
     let f = found k i sent ss ds d is in

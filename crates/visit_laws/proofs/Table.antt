@@ -39,7 +39,7 @@ shut_rows kind b low high a (r ∷ rows) from to h =
     rw (shut_row kind b low high a r from to t.0) (shut_rows kind b low high a rows from to t.1)
 
 -- no write stores a byte of such a range
-shut : (kind : ClockKind) (b : Bool) (low high a : ℕ) → list_all (is_shut b low high) registers ≡ true → low ≤ a → a < high → is_writable kind b a ≡ false
+pub shut : (kind : ClockKind) (b : Bool) (low high a : ℕ) → list_all (is_shut b low high) registers ≡ true → low ≤ a → a < high → is_writable kind b a ≡ false
 unfolding is_writable
 shut kind b low high a all from to = shut_rows kind b low high a registers from to all
 

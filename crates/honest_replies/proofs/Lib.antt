@@ -1,0 +1,5 @@
+pub mod ByKind
+pub mod Numbers
+pub mod Mindful
+pub mod Replies
+pub mod Identifying

@@ -1,0 +1,10 @@
+pub mod Beginning
+pub mod Judged
+pub mod Returning
+pub mod Meant
+pub mod Turning
+pub mod Identified
+pub mod Turns
+pub mod Runs
+pub mod Positions
+pub mod Delays

@@ -1,0 +1,3 @@
+pub mod FileSlaves
+pub mod Progressing
+pub mod Refusals

@@ -1,0 +1,4 @@
+pub mod Parts
+pub mod Addresses
+pub mod Frames
+pub mod Answering

@@ -1,0 +1,4 @@
+pub mod Standing
+pub mod Mindful
+pub mod Broadcasts
+pub mod Addressed
