@@ -1,7 +1,6 @@
 use Rattle.std.proofs.Common.{◌≡◌, ◌+◌, ◌-◌, ◌∷◌, [], length, map, refl, ap, ◌∙◌, arith}
 use Rattle.dc_master.proofs.Causes.{step_causes}
 use Rattle.master_script.specs.Script.{Commission}
-use Rattle.std.proofs.Common.{sym}
 use Rattle.master_script.specs.Slaves.{SlaveWords}
 use Rattle.std.proofs.Common.{List}
 use Rattle.std.specs.List.{range_with_len}
