@@ -2,7 +2,7 @@
 """Writes the table of crates/master_cases and its right answers, its `stdin` and `stdout`.
 
 Slaves are played here, honest ones and others, and what a master sends to them, how it judges what comes back, and what it then keeps
-are worked out from docs/FORMATS.md, "The frames of the master's script", and docs/DEFINITIONS.md, by no more than is said there.
+are worked out from docs/FORMATS.md, "The master's script", and docs/DEFINITIONS.md, by no more than is said there.
 """
 import pathlib
 import random
