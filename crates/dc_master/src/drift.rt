@@ -20,10 +20,10 @@ ghost use Rattle.master_script.specs.declared.step.Step.TheVariants.{Drift};
 
 use crate::config::Config;
 use crate::exchange::{Notes, send};
-use crate::frames::drift_frame;
 use crate::replies::{low_in, miscounted};
 use ecat_frame::Frame;
 use ecat_link::Link;
+use master_frames::drift_frame;
 use master_script::{Refusal, Step};
 use wrap_time::extend;
 
