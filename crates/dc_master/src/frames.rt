@@ -1,12 +1,11 @@
 // The frame of each step, by the table of the script.
-ghost use Rattle.std.specs.Prelude.{◌≡◌, ◌+◌, ◌*◌, ◌%◌, ◌^◌, ◌<◌, ◌≤◌, ◌++◌, ◌∷◌, [], length, take, None, slice_index_or, unwrap_or};
+ghost use Rattle.std.specs.Prelude.{◌≡◌, ◌+◌, ◌≤◌, length, None, slice_index_or, unwrap_or};
 ghost use Rattle.byteorder.specs.Endian.{little_bytes};
-ghost use Rattle.ecat_frame.specs.Built.{built, size_of};
 ghost use Rattle.dc_master.specs.ConfigRange.{IsConfig, value_of};
 ghost use Rattle.dc_master.specs.Known.{words_of};
 ghost use Rattle.dc_master.specs.Places.{CanAsk};
 ghost use Rattle.master_script.specs.Config.{plan_at};
-ghost use Rattle.master_script.specs.Frames.{asks, width, station as station_of, activation as activation_of, sync1_or_0, count_datagrams, identify_datagrams, rate_datagrams, latch_datagrams, times_datagrams, set_datagrams, drift_datagram, drift_datagrams, arm_datagrams};
+ghost use Rattle.master_script.specs.Frames.{width};
 ghost use Rattle.master_script.specs.Slaves.{clocks};
 ghost use Rattle.master_script.specs.Steps.{frame_of};
 ghost use Rattle.master_script.specs.Words.{offset_at, start_at, wide_at};

@@ -1,7 +1,7 @@
 ghost use Rattle.std.specs.Prelude.{◌≡◌, ◌+◌, ◌<◌, ◌≤◌, ◌++◌, ◌∷◌, [], length};
 ghost use Rattle.byteorder.specs.Endian.{little_bytes};
 ghost use Rattle.ecat_frame.specs.Built.{built, size_of};
-ghost use Rattle.master_script.specs.Frames.{asks, width, station as station_of, activation as activation_of, sync1_or_0, count_datagrams, identify_datagrams, rate_datagrams, latch_datagrams, times_datagrams, set_datagrams, drift_datagram, drift_datagrams, arm_datagrams};
+ghost use Rattle.master_script.specs.Frames.{asks, width, station as station_of, activation as activation_of, count_datagrams, identify_datagrams, rate_datagrams, latch_datagrams, times_datagrams, set_datagrams, drift_datagram, drift_datagrams, arm_datagrams};
 
 use byteorder::{ByteOrder, LittleEndian};
 use ecat_frame::{Builder, Command, Frame, Head};
