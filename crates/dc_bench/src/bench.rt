@@ -1,6 +1,7 @@
 ghost use Rattle.std.specs.Prelude.{◌≡◌, ◌⊎◌, ℕ, ◌≤◌, Some, None, OnOk, OnErr, Err};
 ghost use Rattle.ecat_link.specs.RoseBy.{RoseBy};
 ghost use Rattle.ecat_link.specs.Serves.{Serves};
+ghost use Rattle.master_script.specs.Causes.{AreRefused, IsCause};
 ghost use Rattle.master_script.specs.Config.{settle_frames};
 ghost use Rattle.master_script.specs.Kept.{StandsFor, Ends};
 ghost use Rattle.master_script.specs.Script.{Commission, Settle, Arm, Run, script};
@@ -45,6 +46,7 @@ impl Bench {
         requires { (self.old.master.stage ≡ Stage.Fresh) ⊎ (self.old.master.stage ≡ Stage.Spent) }
         ensures config { self.new.master.config ≡ self.old.master.config }
         ensures spent { (r : Refusal) → self.old.master.refusal ≡ Some r → (self.new ≡ self.old) × (result ≡ Err (Error.Spent r)) }
+        ensures spent_before { (r : Refusal) → result ≡ Err (Error.Spent r) → self.old.master.refusal ≡ Some r }
         ensures serves { self.old.master.refusal ≡ None → Serves segment_step (script self.old.master.config Commission)
             (StandsFor None self.old.master) (Some self.old.wire) (Some self.new.wire) (Ends self.old.master.config Commission self.new.master result) }
         ensures stage { OnOk result (self.new.master.stage ≡ Stage.Commissioned) }
@@ -54,6 +56,8 @@ impl Bench {
         ensures few { self.new.master.sent ≤ 203097 }
         ensures later { self.old.wire.lost ≤ self.new.wire.lost }
         ensures lost { (step : Step) → result ≡ Err (Error.Refused (Reason.Lost step)) → RoseBy 3 self.old.wire.lost self.new.wire.lost }
+        ensures caused { (r : Refusal) → result ≡ Err (Error.Refused r) → IsCause self.old.master.config Commission self.new.master.drifts self.new.master.words r }
+        ensures judged { (r : Refusal) → self.old.master.refusal ≡ None → AreRefused self.old.master.config self.new.master.words.slaves r → result ≡ Err (Error.Refused r) }
     {
         self.master.commission(&mut self.wire)
     }
@@ -63,6 +67,7 @@ impl Bench {
         requires { (self.old.master.stage ≡ Stage.Commissioned) ⊎ (self.old.master.stage ≡ Stage.Spent) }
         ensures config { self.new.master.config ≡ self.old.master.config }
         ensures spent { (r : Refusal) → self.old.master.refusal ≡ Some r → (self.new ≡ self.old) × (result ≡ Err (Error.Spent r)) }
+        ensures spent_before { (r : Refusal) → result ≡ Err (Error.Spent r) → self.old.master.refusal ≡ Some r }
         ensures serves { self.old.master.refusal ≡ None → Serves segment_step (script self.old.master.config Settle)
             (StandsFor None self.old.master) (Some self.old.wire) (Some self.new.wire) (Ends self.old.master.config Settle self.new.master result) }
         ensures stage { OnOk result (self.new.master.stage ≡ Stage.Settled) }
@@ -72,6 +77,7 @@ impl Bench {
         ensures few { self.new.master.sent ≤ 203097 }
         ensures later { self.old.wire.lost ≤ self.new.wire.lost }
         ensures lost { (step : Step) → result ≡ Err (Error.Refused (Reason.Lost step)) → RoseBy (settle_frames self.old.master.config) self.old.wire.lost self.new.wire.lost }
+        ensures caused { (r : Refusal) → result ≡ Err (Error.Refused r) → IsCause self.old.master.config Settle self.new.master.drifts self.new.master.words r }
     {
         self.master.settle(&mut self.wire)
     }
@@ -81,6 +87,7 @@ impl Bench {
         requires { (self.old.master.stage ≡ Stage.Settled) ⊎ (self.old.master.stage ≡ Stage.Spent) }
         ensures config { self.new.master.config ≡ self.old.master.config }
         ensures spent { (r : Refusal) → self.old.master.refusal ≡ Some r → (self.new ≡ self.old) × (result ≡ Err (Error.Spent r)) }
+        ensures spent_before { (r : Refusal) → result ≡ Err (Error.Spent r) → self.old.master.refusal ≡ Some r }
         ensures serves { self.old.master.refusal ≡ None → Serves segment_step (script self.old.master.config Arm)
             (StandsFor None self.old.master) (Some self.old.wire) (Some self.new.wire) (Ends self.old.master.config Arm self.new.master result) }
         ensures stage { OnOk result (self.new.master.stage ≡ Stage.Armed) }
@@ -90,6 +97,7 @@ impl Bench {
         ensures few { self.new.master.sent ≤ 203097 }
         ensures later { self.old.wire.lost ≤ self.new.wire.lost }
         ensures lost { (step : Step) → result ≡ Err (Error.Refused (Reason.Lost step)) → RoseBy 3 self.old.wire.lost self.new.wire.lost }
+        ensures caused { (r : Refusal) → result ≡ Err (Error.Refused r) → IsCause self.old.master.config Arm self.new.master.drifts self.new.master.words r }
     {
         self.master.arm(&mut self.wire)
     }
@@ -100,6 +108,7 @@ impl Bench {
         requires frames { frames ≤ 100000 }
         ensures config { self.new.master.config ≡ self.old.master.config }
         ensures spent { (r : Refusal) → self.old.master.refusal ≡ Some r → (self.new ≡ self.old) × (result ≡ Err (Error.Spent r)) }
+        ensures spent_before { (r : Refusal) → result ≡ Err (Error.Spent r) → self.old.master.refusal ≡ Some r }
         ensures serves { self.old.master.refusal ≡ None → Serves segment_step (script self.old.master.config (Run frames))
             (StandsFor None self.old.master) (Some self.old.wire) (Some self.new.wire) (Ends self.old.master.config (Run frames) self.new.master result) }
         ensures stage { OnOk result (self.new.master.stage ≡ Stage.Ended) }
@@ -109,6 +118,7 @@ impl Bench {
         ensures few { self.new.master.sent ≤ 203097 }
         ensures later { self.old.wire.lost ≤ self.new.wire.lost }
         ensures lost { (step : Step) → result ≡ Err (Error.Refused (Reason.Lost step)) → ⊥ }
+        ensures caused { (r : Refusal) → result ≡ Err (Error.Refused r) → IsCause self.old.master.config (Run frames) self.new.master.drifts self.new.master.words r }
     {
         self.master.run(&mut self.wire, frames)
     }

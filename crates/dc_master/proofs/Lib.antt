@@ -9,3 +9,4 @@ mod Judging
 mod Planned
 mod Driving
 mod Calls
+mod Causes

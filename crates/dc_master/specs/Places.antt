@@ -3,6 +3,7 @@ use Rattle.std.specs.Prelude.{◌≡◌, ℕ, ◌+◌, ◌-◌, ◌*◌, ◌%◌
 use Rattle.ecat_frame.specs.FrameGrammar.{DatagramValue, FrameValue}
 use Rattle.ecat_link.specs.Exchanges.{Exchange}
 use Rattle.dc_master.specs.declared.exchange.Counters.{Counters}
+use Rattle.master_script.specs.Causes.{CameMiscounted, CameOther}
 use Rattle.master_script.specs.Config.{ConfigValue}
 use Rattle.master_script.specs.Judged.{judged}
 use Rattle.master_script.specs.Kept.{has_delays}
@@ -10,10 +11,10 @@ use Rattle.wrap_time.specs.Extended.{extended}
 use Rattle.master_script.specs.Progress.{Phase, Commissioning, Arming, Running, arm_steps, Progress, progress, turned, answered, beginning, lost_one}
 use Rattle.master_script.specs.Script.{Call, Commission, Arm as CallArm}
 use Rattle.master_script.specs.Slaves.{clocks}
-use Rattle.master_script.specs.Steps.{expected, learned, low_in}
+use Rattle.master_script.specs.Steps.{expected, frame_of, learned, low_in}
 use Rattle.master_script.specs.Words.{Words, delays_of, reference_of}
 use Rattle.master_script.specs.declared.step.Refusal.{Refusal}
-use Rattle.master_script.specs.declared.step.Refusal.TheVariants.{Lost}
+use Rattle.master_script.specs.declared.step.Refusal.TheVariants.{Lost, Counter, Reply}
 use Rattle.master_script.specs.declared.step.Step.{Step}
 use Rattle.master_script.specs.declared.step.Step.TheVariants.{Identify, Times, Set, Settle, Drift, Arm}
 
@@ -94,6 +95,13 @@ IsReceived cfg number step sent reply w later (Ok _) =
     (judged step (expected cfg w step reply) sent reply ≡ None) × (later ≡ learned number step reply w)
 IsReceived cfg number step sent reply w later (Err r) =
     (judged step (expected cfg w step reply) sent reply ≡ Some r) × (later ≡ w)
+
+-- the cause of a refusal of a step that was asked
+abbrev pub IsCauseAt : ConfigValue → Words → Step → Refusal → Type 0
+IsCauseAt cfg w step (Lost q) = q ≡ step
+IsCauseAt cfg w step (Reply q at) = (q ≡ step) × CameOther (frame_of cfg w step) at
+IsCauseAt cfg w step (Counter q e k) = (q ≡ step) × CameMiscounted cfg w step e k
+IsCauseAt cfg w step r = ⊥
 
 -- a part of a call was refused, and this is kept
 pub record HasRefused (cfg : ConfigValue) (n : Counters) (w : Words) (ds : List (Option ℕ)) (r : Refusal) (es : List Exchange) : Type 0 where

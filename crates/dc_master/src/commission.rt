@@ -1,5 +1,5 @@
 // Commissioning: the slaves are found, measured and set.
-ghost use Rattle.std.specs.Prelude.{◌≡◌, ◌≤◌, ◌+◌, ◌*◌, ℕ, List, [], ◌++◌, false, length, map, Err, None, OnOk};
+ghost use Rattle.std.specs.Prelude.{◌≡◌, ◌≤◌, ◌<◌, ◌+◌, ◌*◌, ℕ, List, [], ◌++◌, false, length, map, Err, None, IfErr, OnErr, OnOk};
 ghost use Rattle.dc_bounds.specs.Weight.{flag};
 ghost use Rattle.dc_delay.specs.Latched.{measures};
 ghost use Rattle.ecat_link.specs.RoseBy.{RoseBy};
@@ -7,10 +7,12 @@ ghost use Rattle.ecat_link.specs.Serves.{Serves};
 ghost use Rattle.dc_master.specs.ConfigRange.{IsConfig, value_of};
 ghost use Rattle.dc_master.specs.Known.{words_of};
 ghost use Rattle.dc_master.specs.Places.{AfterPart, Asks, HasRoom, HasSent, IsFresh, IsReady};
+ghost use Rattle.master_script.specs.Causes.{AreRefused, IsCause};
 ghost use Rattle.master_script.specs.Config.{slaves as slaves_of};
 ghost use Rattle.master_script.specs.Progress.{Arming, Commissioning, arm_steps, first_steps, later_steps};
 ghost use Rattle.master_script.specs.Script.{Arm as ArmCall, Commission, script};
 ghost use Rattle.master_script.specs.Slaves.{clocks, is_measuring, measuring};
+ghost use Rattle.master_script.specs.declared.step.Refusal.{Refusal as Reason};
 ghost use Rattle.master_script.specs.declared.step.Refusal.TheVariants.{Lost};
 ghost use Rattle.master_script.specs.declared.step.Step.{Step as AnyStep};
 ghost use Rattle.master_script.specs.declared.step.Step.TheVariants.{Set, Times};
@@ -39,6 +41,8 @@ pub(crate) fn commission<L: Link>(
     ensures drifts { notes.new.counters.drifts ≡ 0 }
     ensures later { L.lost link.old ≤ L.lost link.new }
     ensures lost { (q : _) → result ≡ Err (Lost q) → RoseBy 3 (L.lost link.old) (L.lost link.new) }
+    ensures caused { IfErr result (IsCause (value_of config.now) Commission notes.new.counters.drifts (words_of notes.new.learned)) }
+    ensures judged { (r : Reason) → AreRefused (value_of config.now) (words_of notes.new.learned).slaves r → result ≡ Err r }
 {
     if let Err(refusal) = identify_slaves(config, notes, link) {
         return Err(refusal);
@@ -66,6 +70,7 @@ fn identify_slaves<L: Link>(config: &Config, notes: &mut Notes, link: &mut L) ->
         (Asks (value_of config.now) Commissioning notes.old.counters (words_of notes.old.learned) (first_steps (value_of config.now))) (L.state link.old) (L.state link.new)
         (AfterPart (value_of config.now) Commissioning notes.new.counters (words_of notes.new.learned) [] [] result) }
     ensures slaves { OnOk result (length (words_of notes.new.learned).slaves ≡ slaves_of (value_of config.now)) }
+    ensures fewer { OnErr result (length (words_of notes.new.learned).slaves < slaves_of (value_of config.now)) }
     ensures reference { (words_of notes.new.learned).reference ≡ None }
     ensures latches { (words_of notes.new.learned).latches ≡ (words_of notes.old.learned).latches }
     ensures delays { notes.new.delays.items ≡ [] }
@@ -73,6 +78,7 @@ fn identify_slaves<L: Link>(config: &Config, notes: &mut Notes, link: &mut L) ->
     ensures drifts { notes.new.counters.drifts ≡ notes.old.counters.drifts }
     ensures later { L.lost link.old ≤ L.lost link.new }
     ensures lost { (q : _) → result ≡ Err (Lost q) → RoseBy 3 (L.lost link.old) (L.lost link.new) }
+    ensures caused { IfErr result (IsCause (value_of config.now) Commission notes.new.counters.drifts (words_of notes.new.learned)) }
 {
     if let Err(refusal) = take(config, notes, link, Step::Count) {
         return Err(refusal);
@@ -107,6 +113,7 @@ fn measure<L: Link>(config: &Config, notes: &mut Notes, link: &mut L) -> Result<
     ensures drifts { notes.new.counters.drifts ≡ notes.old.counters.drifts }
     ensures later { L.lost link.old ≤ L.lost link.new }
     ensures lost { (q : _) → result ≡ Err (Lost q) → RoseBy 3 (L.lost link.old) (L.lost link.new) }
+    ensures caused { IfErr result (IsCause (value_of config.now) Commission notes.new.counters.drifts (words_of notes.new.learned)) }
 {
     if let Err(refusal) = take(config, notes, link, Step::Rate) {
         return Err(refusal);
@@ -137,6 +144,7 @@ fn read_times<L: Link>(config: &Config, notes: &mut Notes, link: &mut L) -> Resu
     ensures drifts { notes.new.counters.drifts ≡ notes.old.counters.drifts }
     ensures later { L.lost link.old ≤ L.lost link.new }
     ensures lost { (q : _) → result ≡ Err (Lost q) → RoseBy 3 (L.lost link.old) (L.lost link.new) }
+    ensures caused { IfErr result (IsCause (value_of config.now) Commission notes.new.counters.drifts (words_of notes.new.learned)) }
 {
     for position in 0..notes.learned.slaves.len() as u16 {
         if notes.learned.is_measuring(position) {
@@ -163,6 +171,7 @@ fn set_clocks<L: Link>(config: &Config, notes: &mut Notes, link: &mut L) -> Resu
     ensures drifts { notes.new.counters.drifts ≡ notes.old.counters.drifts }
     ensures later { L.lost link.old ≤ L.lost link.new }
     ensures lost { (q : _) → result ≡ Err (Lost q) → RoseBy 3 (L.lost link.old) (L.lost link.new) }
+    ensures caused { IfErr result (IsCause (value_of config.now) Commission notes.new.counters.drifts (words_of notes.new.learned)) }
 {
     for position in 0..notes.learned.slaves.len() as u16 {
         if notes.learned.is_clock(position) {
@@ -188,6 +197,7 @@ pub(crate) fn arm<L: Link>(config: &Config, notes: &mut Notes, link: &mut L) -> 
     ensures sent { HasSent notes.old.counters notes.new.counters 768 }
     ensures later { L.lost link.old ≤ L.lost link.new }
     ensures lost { (q : _) → result ≡ Err (Lost q) → RoseBy 3 (L.lost link.old) (L.lost link.new) }
+    ensures caused { IfErr result (IsCause (value_of config.now) ArmCall notes.new.counters.drifts (words_of notes.new.learned)) }
 {
     for position in 0..notes.learned.slaves.len() as u16 {
         if notes.learned.is_clock(position) {

@@ -1,11 +1,13 @@
 // Drift frames of settling and running.
-ghost use Rattle.std.specs.Prelude.{◌≡◌, ◌≤◌, ◌∷◌, [], Err, None, OnOk};
+ghost use Rattle.std.specs.Prelude.{◌≡◌, ◌≤◌, ◌∷◌, [], Err, None, IfErr, OnOk};
 ghost use Rattle.ecat_frame.specs.Built.{built};
+ghost use Rattle.ecat_frame.specs.FrameGrammar.{IsFrame};
 ghost use Rattle.ecat_link.specs.RoseBy.{RoseBy};
 ghost use Rattle.ecat_link.specs.Serves.{Serves};
 ghost use Rattle.dc_master.specs.ConfigRange.{IsConfig, value_of};
 ghost use Rattle.dc_master.specs.Known.{words_of};
 ghost use Rattle.dc_master.specs.Places.{AfterRun, AfterSettle, AtRest, HasRoom, HasSent, IsReady, IsTimed, sizes};
+ghost use Rattle.master_script.specs.Causes.{IsCause};
 ghost use Rattle.master_script.specs.Config.{settle_frames as settle_frames_of};
 ghost use Rattle.master_script.specs.Frames.{drift_datagrams};
 ghost use Rattle.master_script.specs.Judged.{judged};
@@ -18,10 +20,10 @@ ghost use Rattle.master_script.specs.declared.step.Step.TheVariants.{Drift};
 
 use crate::config::Config;
 use crate::exchange::{Notes, send};
-use crate::frames::drift_frame;
 use crate::replies::{low_in, miscounted};
 use ecat_frame::Frame;
 use ecat_link::Link;
+use master_frames::drift_frame;
 use master_script::{Refusal, Step};
 use wrap_time::extend;
 
@@ -51,6 +53,7 @@ pub(crate) fn settle<L: Link>(
     ensures drifts { OnOk result (notes.new.counters.drifts ≡ settle_frames_of (value_of config.now)) }
     ensures later { L.lost link.old ≤ L.lost link.new }
     ensures lost { (q : _) → result ≡ Err (Lost q) → RoseBy (settle_frames_of (value_of config.now)) (L.lost link.old) (L.lost link.new) }
+    ensures caused { IfErr result (IsCause (value_of config.now) SettleCall notes.new.counters.drifts (words_of notes.new.learned)) }
 {
     let sent = drift_frame(notes.learned.reference_or_0());
     let clocks = notes.learned.clocks();
@@ -78,6 +81,7 @@ fn receive_time(
     requires config { IsConfig (value_of config.now) }
     requires sent { sent.now ≡ built (drift_datagrams (reference_of (words_of notes.old.learned))) }
     ensures is { IsTimed (value_of config.now) notes.old.counters clocks sent.now reply.now (words_of notes.old.learned) (words_of notes.new.learned) result }
+    ensures valid { IsFrame reply.now }
     ensures counters { notes.new.counters ≡ notes.old.counters }
     ensures delays { notes.new.delays.items ≡ notes.old.delays.items }
 {
@@ -106,6 +110,7 @@ pub(crate) fn run<L: Link>(
     ensures delays { notes.new.delays.items ≡ notes.old.delays.items }
     ensures sent { HasSent notes.old.counters notes.new.counters frames }
     ensures later { L.lost link.old ≤ L.lost link.new }
+    ensures caused { IfErr result (IsCause (value_of config.now) (Run frames) notes.new.counters.drifts (words_of notes.new.learned)) }
     ensures lost { (q : _) → result ≡ Err (Lost q) → ⊥ }
 {
     let sent = drift_frame(notes.learned.reference_or_0());
@@ -124,6 +129,7 @@ pub(crate) fn run<L: Link>(
 fn judge_drift(number: u32, clocks: u16, sent: &Frame, reply: &Frame) -> Option<Refusal>
     ensures is { result ≡ judged (Drift number) (clocks ∷ []) sent.now reply.now }
     ensures alike { result ≡ None → sizes reply.now ≡ sizes sent.now }
+    ensures valid { IsFrame reply.now }
 {
     let step = Step::Drift(number);
     sent.in_grammar();

@@ -23,6 +23,3 @@ mod steps;
 pub use config::Config;
 pub use master::Master;
 pub use master_script::{MasterError, Refusal, Stage, Step, SyncPlan};
-
-#[cfg(test)]
-mod tests;

@@ -1,8 +1,9 @@
-ghost use Rattle.std.specs.Prelude.{◌≡◌, ◌≤◌, ◌⊎◌, ℕ, [], Err, IfOk, None, OnErr, OnOk, Some, slice_index_or};
+ghost use Rattle.std.specs.Prelude.{◌≡◌, ◌↔◌, ◌≤◌, ◌⊎◌, ℕ, [], Err, IfOk, IsSome, None, OnErr, OnOk, Some, slice_index_or};
 ghost use Rattle.ecat_link.specs.RoseBy.{RoseBy};
 ghost use Rattle.ecat_link.specs.Serves.{Serves};
 ghost use Rattle.dc_master.specs.ConfigRange.{IsConfig, value_of};
 ghost use Rattle.dc_master.specs.Idle.{IsIdle};
+ghost use Rattle.master_script.specs.Causes.{AreRefused, IsCause};
 ghost use Rattle.master_script.specs.Config.{settle_frames as settle_frames_of};
 ghost use Rattle.master_script.specs.Kept.{Ends, StandsFor};
 ghost use Rattle.master_script.specs.Script.{Arm, Commission, Run, Settle, script};
@@ -74,9 +75,10 @@ impl Master {
         })
     }
 
-    /// What the master has done.
+    /// What the master has done. It is spent exactly where a call of it was refused.
     pub fn stage(&self) -> Stage
-        ensures { result ≡ self.now.stage }
+        ensures is { result ≡ self.now.stage }
+        ensures spent { (self.now.stage ≡ stage.Spent) ↔ IsSome self.now.refusal }
     {
         self.stage
     }
@@ -130,6 +132,7 @@ impl Master {
         requires { (self.old.stage ≡ stage.Fresh) ⊎ (self.old.stage ≡ stage.Spent) }
         ensures config { self.new.config ≡ self.old.config }
         ensures spent { (r : _) → self.old.refusal ≡ Some r → IsIdle L.state L.lost self.old self.new link.old link.new × (result ≡ Err (Spent r)) }
+        ensures spent_before { (r : _) → result ≡ Err (Spent r) → self.old.refusal ≡ Some r }
         ensures serves { self.old.refusal ≡ None → Serves L.step (script self.old.config Commission)
             (StandsFor None self.old) (L.state link.old) (L.state link.new) (Ends self.old.config Commission self.new result) }
         ensures stage { OnOk result (self.new.stage ≡ stage.Commissioned) }
@@ -139,6 +142,8 @@ impl Master {
         ensures few { self.new.sent ≤ 203097 }
         ensures later { L.lost link.old ≤ L.lost link.new }
         ensures lost { (step : _) → result ≡ Err (Refused (Lost step)) → RoseBy 3 (L.lost link.old) (L.lost link.new) }
+        ensures caused { (r : _) → result ≡ Err (Refused r) → IsCause self.old.config Commission self.new.drifts self.new.words r }
+        ensures judged { (r : _) → self.old.refusal ≡ None → AreRefused self.old.config self.new.words.slaves r → result ≡ Err (Refused r) }
     {
         if let Some(refusal) = self.refusal {
             return Err(MasterError::Spent(refusal));
@@ -161,6 +166,7 @@ impl Master {
         requires { (self.old.stage ≡ stage.Commissioned) ⊎ (self.old.stage ≡ stage.Spent) }
         ensures config { self.new.config ≡ self.old.config }
         ensures spent { (r : _) → self.old.refusal ≡ Some r → IsIdle L.state L.lost self.old self.new link.old link.new × (result ≡ Err (Spent r)) }
+        ensures spent_before { (r : _) → result ≡ Err (Spent r) → self.old.refusal ≡ Some r }
         ensures serves { self.old.refusal ≡ None → Serves L.step (script self.old.config Settle)
             (StandsFor None self.old) (L.state link.old) (L.state link.new) (Ends self.old.config Settle self.new result) }
         ensures stage { OnOk result (self.new.stage ≡ stage.Settled) }
@@ -170,6 +176,7 @@ impl Master {
         ensures few { self.new.sent ≤ 203097 }
         ensures later { L.lost link.old ≤ L.lost link.new }
         ensures lost { (step : _) → result ≡ Err (Refused (Lost step)) → RoseBy (settle_frames_of self.old.config) (L.lost link.old) (L.lost link.new) }
+        ensures caused { (r : _) → result ≡ Err (Refused r) → IsCause self.old.config Settle self.new.drifts self.new.words r }
     {
         if let Some(refusal) = self.refusal {
             return Err(MasterError::Spent(refusal));
@@ -192,6 +199,7 @@ impl Master {
         requires { (self.old.stage ≡ stage.Settled) ⊎ (self.old.stage ≡ stage.Spent) }
         ensures config { self.new.config ≡ self.old.config }
         ensures spent { (r : _) → self.old.refusal ≡ Some r → IsIdle L.state L.lost self.old self.new link.old link.new × (result ≡ Err (Spent r)) }
+        ensures spent_before { (r : _) → result ≡ Err (Spent r) → self.old.refusal ≡ Some r }
         ensures serves { self.old.refusal ≡ None → Serves L.step (script self.old.config Arm)
             (StandsFor None self.old) (L.state link.old) (L.state link.new) (Ends self.old.config Arm self.new result) }
         ensures stage { OnOk result (self.new.stage ≡ stage.Armed) }
@@ -201,6 +209,7 @@ impl Master {
         ensures few { self.new.sent ≤ 203097 }
         ensures later { L.lost link.old ≤ L.lost link.new }
         ensures lost { (step : _) → result ≡ Err (Refused (Lost step)) → RoseBy 3 (L.lost link.old) (L.lost link.new) }
+        ensures caused { (r : _) → result ≡ Err (Refused r) → IsCause self.old.config Arm self.new.drifts self.new.words r }
     {
         if let Some(refusal) = self.refusal {
             return Err(MasterError::Spent(refusal));
@@ -224,6 +233,7 @@ impl Master {
         requires few { frames ≤ 100000 }
         ensures config { self.new.config ≡ self.old.config }
         ensures spent { (r : _) → self.old.refusal ≡ Some r → IsIdle L.state L.lost self.old self.new link.old link.new × (result ≡ Err (Spent r)) }
+        ensures spent_before { (r : _) → result ≡ Err (Spent r) → self.old.refusal ≡ Some r }
         ensures serves { self.old.refusal ≡ None → Serves L.step (script self.old.config (Run frames))
             (StandsFor None self.old) (L.state link.old) (L.state link.new) (Ends self.old.config (Run frames) self.new result) }
         ensures stage { OnOk result (self.new.stage ≡ stage.Ended) }
@@ -233,6 +243,7 @@ impl Master {
         ensures few { self.new.sent ≤ 203097 }
         ensures later { L.lost link.old ≤ L.lost link.new }
         ensures lost { (step : _) → result ≡ Err (Refused (Lost step)) → ⊥ }
+        ensures caused { (r : _) → result ≡ Err (Refused r) → IsCause self.old.config (Run frames) self.new.drifts self.new.words r }
     {
         if let Some(refusal) = self.refusal {
             return Err(MasterError::Spent(refusal));

@@ -1,6 +1,7 @@
 // How replies are judged, and what they teach.
 ghost use Rattle.std.specs.Prelude.{◌≡◌, ◌<◌, ◌≤◌, ◌+◌, ◌∷◌, [], drop, length, slice_index, None};
 ghost use Rattle.byteorder.specs.Endian.{little_number};
+ghost use Rattle.ecat_frame.specs.FrameGrammar.{IsFrame};
 ghost use Rattle.dc_master.specs.ConfigRange.{IsConfig, value_of};
 ghost use Rattle.dc_master.specs.Known.{words_of};
 ghost use Rattle.dc_master.specs.Places.{CanLearn, sizes};
@@ -30,6 +31,7 @@ pub(crate) fn judge(
     requires sent { sent.now ≡ frame_of (value_of config.now) (words_of learned.now) step }
     ensures is { result ≡ judged step (expected (value_of config.now) (words_of learned.now) step reply.now) sent.now reply.now }
     ensures alike { result ≡ None → sizes reply.now ≡ sizes sent.now }
+    ensures valid { IsFrame reply.now }
 {
     sent.in_grammar();
     reply.in_grammar();

@@ -1,6 +1,6 @@
 // Steps that are asked: sent up to three times, judged, and learned from.
-ghost use Rattle.std.specs.Prelude.{◌≡◌, ◌+◌, ◌<◌, ◌≤◌, ◌^◌, ◌∷◌, List, Err, OnOk, OnErr};
-ghost use Rattle.ecat_frame.specs.FrameGrammar.{FrameValue};
+ghost use Rattle.std.specs.Prelude.{◌≡◌, ◌+◌, ◌<◌, ◌≤◌, ◌^◌, ◌∷◌, List, Err, IfErr, OnOk, OnErr};
+ghost use Rattle.ecat_frame.specs.FrameGrammar.{FrameValue, IsFrame};
 ghost use Rattle.ecat_link.specs.RoseBy.{RoseBy};
 ghost use Rattle.ecat_link.specs.Serves.{Serves};
 ghost use Rattle.master_script.specs.Progress.{drift_one};
@@ -10,7 +10,7 @@ ghost use Rattle.master_script.specs.declared.step.Refusal.TheVariants.{Lost};
 ghost use Rattle.master_script.specs.declared.step.Step.{Step as AnyStep};
 ghost use Rattle.dc_master.specs.ConfigRange.{IsConfig, value_of};
 ghost use Rattle.dc_master.specs.Known.{words_of};
-ghost use Rattle.dc_master.specs.Places.{AfterStep, Asks, CanAsk, CanLearn, IsReceived, call_of, phase_of};
+ghost use Rattle.dc_master.specs.Places.{AfterStep, Asks, CanAsk, CanLearn, IsCauseAt, IsReceived, call_of, phase_of};
 
 use crate::config::Config;
 use crate::exchange::{Notes, ask};
@@ -47,6 +47,7 @@ pub(crate) fn take<L: Link>(
         → notes.new.counters.drifts + notes.old.counters.sent ≡ notes.old.counters.drifts + notes.new.counters.sent }
     ensures later { L.lost link.old ≤ L.lost link.new }
     ensures lost { (q : _) → result ≡ Err (Lost q) → RoseBy 3 (L.lost link.old) (L.lost link.new) }
+    ensures caused { IfErr result (IsCauseAt (value_of config.now) (words_of notes.new.learned) step) }
 {
     let sent = frame(config, notes, step);
     match ask(config, &mut notes.counters, link, step, &sent) {
@@ -67,6 +68,7 @@ fn receive(
     requires sent { sent.now ≡ frame_of (value_of config.now) (words_of notes.old.learned) step }
     requires room { CanLearn (words_of notes.old.learned) step }
     ensures is { IsReceived (value_of config.now) notes.old.counters.sent step sent.now reply.now (words_of notes.old.learned) (words_of notes.new.learned) result }
+    ensures valid { IsFrame reply.now }
     ensures counters { notes.new.counters ≡ notes.old.counters }
     ensures delays { notes.new.delays.items ≡ notes.old.delays.items }
 {

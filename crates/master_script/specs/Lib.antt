@@ -14,3 +14,4 @@ pub mod StaysKept
 pub mod Stages
 pub mod Rows
 pub mod Begins
+pub mod Causes

@@ -1,4 +1,6 @@
 use Rattle.std.proofs.Common.{◌≡◌, ◌∙◌, map, sym, ap}
+use Rattle.dc_master.proofs.Causes.{slaves_cause}
+use Rattle.std.proofs.Common.{Ok, Err, arith}
 use Rattle.ecat_link.proofs.Serving.{serves_then, serves_weaker}
 use Rattle.dc_master.specs.ConfigRange.{value_of}
 use Rattle.dc_master.specs.Known.{words_of}
@@ -8,6 +10,7 @@ use Rattle.dc_master.proofs.Planned.{planned_ok}
 use Rattle.dc_master.proofs.commission.commission.Goals as goal
 use Rattle.master_script.specs.Progress.{Commissioning}
 use Rattle.master_script.specs.Slaves.{clocks, judgement}
+use Rattle.master_script.specs.Words.{Words}
 use Rattle.master_script.specs.declared.step.Refusal.TheVariants.{Lost}
 use Rattle.master_script.specs.declared.step.Step.TheVariants.{Set}
 
@@ -40,3 +43,28 @@ returns-clause-serves g c =
     c.in_default-measure.ensures.serves)
     (serves_weaker g.L.Link.step _ _ _ _ _ _ _ (λ es b. at_todo cfg Commissioning m.counters v (map Set (clocks w.slaves)) (map Set (clocks v.slaves)) es (ap (λ ss. map Set (clocks ss)) (sym c.measure.ensures.slaves)) b)
     (λ es b. b) c.set_clocks.ensures.serves)
+
+pub returns-in-Err-clause-judged : goal.returns-in-Err-clause-judged
+returns-in-Err-clause-judged g c r a = absurd (let all = a.all in omega (arith, all, c.in-Err.ensures.fewer))
+
+pub returns-in-Err-judge_slaves-clause-caused : goal.returns-in-Err-judge_slaves-clause-caused
+returns-in-Err-judge_slaves-clause-caused g c =
+    let i = c.identify_slaves.new.notes in
+    slaves_cause (value_of c.args.config.now) i.counters.drifts (words_of i.learned) c.in-Err-judge_slaves.refusal c.in_default.ensures.slaves
+    (sym (c.in-Err-judge_slaves.ensures.is ∙ ap (λ ss. judgement ss) c.deref.ensures.0))
+
+pub returns-in-Err-judge_slaves-clause-judged : goal.returns-in-Err-judge_slaves-clause-judged
+returns-in-Err-judge_slaves-clause-judged g c r a =
+    let s = c.in-Err-judge_slaves.ensures.is ∙ ap (λ ss. judgement ss) c.deref.ensures.0 ∙ a.judged in
+    let e : c.in-Err-judge_slaves.refusal ≡ r = cc in
+    ap (λ x. Err x) e
+
+pub returns-in-Err-measure-clause-judged : goal.returns-in-Err-measure-clause-judged
+returns-in-Err-measure-clause-judged g c r a =
+    let same = ap (λ ss. judgement ss) (sym c.measure.ensures.slaves) in
+    absurd (let z : Ok c.in-Ok.reference ≡ Err r = c.in-Ok.ensures.is ∙ ap (λ ss. judgement ss) c.deref.ensures.0 ∙ same ∙ a.judged in cc)
+
+pub returns-clause-judged : goal.returns-clause-judged
+returns-clause-judged g c r a =
+    let same = ap (λ ss. judgement ss) (sym (ap (λ (x : Words). x.slaves) c.set_clocks.ensures.words ∙ c.measure.ensures.slaves)) in
+    absurd (let z : Ok c.in-Ok.reference ≡ Err r = c.in-Ok.ensures.is ∙ ap (λ ss. judgement ss) c.deref.ensures.0 ∙ same ∙ a.judged in cc)

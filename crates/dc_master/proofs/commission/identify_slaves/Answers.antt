@@ -1,4 +1,8 @@
 use Rattle.std.proofs.Common.{◌≡◌, ◌+◌, ◌-◌, ◌∷◌, [], length, map, refl, ap, ◌∙◌, arith}
+use Rattle.dc_master.proofs.Causes.{step_causes}
+use Rattle.master_script.specs.Script.{Commission}
+use Rattle.master_script.specs.Slaves.{SlaveWords}
+use Rattle.std.proofs.Common.{List}
 use Rattle.std.specs.List.{range_with_len}
 use Rattle.std.proofs.lemmas.List.{length_push}
 use Rattle.ecat_link.proofs.Serving.{serves_weaker}
@@ -77,3 +81,21 @@ loop-position-preserved g c =
       drifts = e.still refl ∙ l.invariant.drifts;
       later = omega (arith, e.later, l.invariant.later);
     }
+
+pub returns-in-Err-clause-caused : goal.returns-in-Err-clause-caused
+returns-in-Err-clause-caused g c =
+    step_causes (value_of c.args.config.now) Commission c.take.new.notes.counters.drifts (words_of c.take.new.notes.learned) Count c.in-Err.refusal tt tt c.in-Err.ensures.caused
+
+pub returns-in-Err-clause-fewer : goal.returns-in-Err-clause-fewer
+returns-in-Err-clause-fewer g c =
+    let none = ap (λ (x : Words). length x.slaves) c.in-Err.ensures.stays ∙ ap (λ (x : List SlaveWords). length x) c.requires.slaves in
+    omega (arith, none, c.requires.config.some)
+
+pub returns-in-Err-take-clause-caused : goal.returns-in-Err-take-clause-caused
+returns-in-Err-take-clause-caused g c =
+    step_causes (value_of c.args.config.now) Commission c.take-in-loop-position.new.notes.counters.drifts (words_of c.take-in-loop-position.new.notes.learned) (Identify c.loop-position.position) c.in-Err-take.refusal tt tt c.in-Err-take.ensures.caused
+
+pub returns-in-Err-take-clause-fewer : goal.returns-in-Err-take-clause-fewer
+returns-in-Err-take-clause-fewer g c =
+    let told = ap (λ (x : Words). length x.slaves) c.in-Err-take.ensures.stays ∙ c.loop-position.invariant.slaves in
+    omega (arith, told, c.loop-position-test.true, c.len-position-end.ensures, c.requires.config.few)

@@ -1,4 +1,6 @@
 use Rattle.std.proofs.Common.{◌∷◌, ◌++◌, [], map, refl, ap, sym, ◌∙◌}
+use Rattle.dc_master.proofs.Causes.{step_causes}
+use Rattle.master_script.specs.Script.{Commission}
 use Rattle.ecat_link.proofs.Serving.{serves_then, serves_weaker}
 use Rattle.dc_master.specs.ConfigRange.{value_of}
 use Rattle.dc_master.specs.Known.{words_of}
@@ -46,3 +48,11 @@ returns-clause-serves g c =
     (serves_weaker g.L.Link.step _ _ _ _ _ _ _ (λ es b. at_todo cfg Commissioning c.take-2.new.notes.counters u rest (map Times (measuring u.slaves) ++ map Set (clocks w.slaves)) es
     (ap (λ ss. map Times (measuring ss) ++ map Set (clocks w.slaves)) (sym same)) b) (λ es b. b)
     (c.read_times.ensures.serves (map Set (clocks w.slaves))))
+
+pub returns-in-Err-clause-caused : goal.returns-in-Err-clause-caused
+returns-in-Err-clause-caused g c =
+    step_causes (value_of c.args.config.now) Commission c.take.new.notes.counters.drifts (words_of c.take.new.notes.learned) Rate c.in-Err.refusal tt tt c.in-Err.ensures.caused
+
+pub returns-in-Err-take-clause-caused : goal.returns-in-Err-take-clause-caused
+returns-in-Err-take-clause-caused g c =
+    step_causes (value_of c.args.config.now) Commission c.take-2.new.notes.counters.drifts (words_of c.take-2.new.notes.learned) Latch c.in-Err-take.refusal tt tt c.in-Err-take.ensures.caused

@@ -1,4 +1,6 @@
 use Rattle.std.proofs.Common.{◌≡◌, ◌+◌, ◌-◌, ◌<◌, ◌∷◌, ◌++◌, [], ℕ, List, Option, true, false, length, map, refl, ap, sym, ◌∙◌, arith, filter}
+use Rattle.dc_master.proofs.Causes.{step_causes}
+use Rattle.master_script.specs.Script.{Commission}
 use Rattle.std.specs.List.{range_with_len}
 use Rattle.std.proofs.lemmas.List.{length-map, length-set}
 use Rattle.ecat_link.proofs.Serving.{serves_none, serves_weaker}
@@ -129,3 +131,7 @@ returns-clause-read g c =
     let few = c.requires.few in
     read_all (words_of l.notes.learned).latches (map is_measuring ss) (λ q h. l.invariant.read q (omega (arith, h, whole, end, value, few)))
     (λ q h. l.invariant.unread q (omega (arith, h, whole, last, value, few)))
+
+pub returns-in-Err-clause-caused : goal.returns-in-Err-clause-caused
+returns-in-Err-clause-caused g c =
+    step_causes (value_of c.args.config.now) Commission c.take.new.notes.counters.drifts (words_of c.take.new.notes.learned) (Times c.loop-position.position) c.in-Err.refusal tt tt c.in-Err.ensures.caused

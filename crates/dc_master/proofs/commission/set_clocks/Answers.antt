@@ -1,4 +1,6 @@
 use Rattle.std.proofs.Common.{◌≡◌, ◌+◌, ◌-◌, ◌<◌, [], ℕ, List, true, false, filter, length, map, refl, ap, sym, ◌∙◌, arith}
+use Rattle.dc_master.proofs.Causes.{step_causes}
+use Rattle.master_script.specs.Script.{Commission}
 use Rattle.std.specs.List.{range_with_len}
 use Rattle.ecat_link.proofs.Serving.{serves_none, serves_weaker}
 use Rattle.dc_bounds.specs.Weight.{flag}
@@ -100,3 +102,7 @@ returns-clause-serves g c =
     (λ es p. at_todo cfg Commissioning l.notes.counters (words_of l.notes.learned) (map Set (left flags n l.position)) [] es
     (ap (λ (ps : List ℕ). map Set ps) (left_end flags n l.position (omega (arith, c.loop-position-test.false, c.len-position-end.ensures.value, c.requires.ready.slaves)))) p)
     l.invariant.serves)
+
+pub returns-in-Err-clause-caused : goal.returns-in-Err-clause-caused
+returns-in-Err-clause-caused g c =
+    step_causes (value_of c.args.config.now) Commission c.take.new.notes.counters.drifts (words_of c.take.new.notes.learned) (Set c.loop-position.position) c.in-Err.refusal tt tt c.in-Err.ensures.caused

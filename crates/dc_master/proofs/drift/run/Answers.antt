@@ -1,4 +1,9 @@
 use Rattle.std.proofs.Common.{◌≡◌, ◌∙◌, ◌+◌, Some, None, refl, sym, ap, arith}
+use Rattle.dc_master.proofs.Causes.{drift_causes}
+use Rattle.std.proofs.Common.{length}
+use Rattle.master_script.specs.Words.{Words, reference_of}
+use Rattle.master_script.specs.Slaves.{clocks}
+use Rattle.master_script.specs.Script.{Run}
 use Rattle.ecat_frame.specs.Built.{built}
 use Rattle.ecat_link.proofs.Serving.{serves_none, serves_weaker}
 use Rattle.dc_master.specs.ConfigRange.{value_of}
@@ -77,3 +82,12 @@ returns-clause-serves g c =
     let w = words_of c.args.notes.now.learned in
     serves_weaker g.L.Link.step _ _ _ _ _ _ _ (λ es b. b)
     (λ es b. ran_as cfg l.notes.counters w (words_of l.notes.learned) l._number c.args.frames es l.invariant.words (omega (arith, c.loop-number-test.false, l.auto._number-end)) b) l.invariant.serves
+
+pub returns-in-Some-judge_drift-clause-caused : goal.returns-in-Some-judge_drift-clause-caused
+returns-in-Some-judge_drift-clause-caused g c =
+    let l = c.loop-number in
+    let same = sym l.invariant.words in
+    let reference = c.drift_frame-sent.ensures ∙ ap (λ k. built (drift_datagrams k)) (c.reference_or_0.ensures ∙ ap (λ (x : Words). reference_of x) same) in
+    let many = c.clocks-clocks.ensures.is ∙ ap (λ (x : Words). length (clocks x.slaves)) same in
+    drift_causes (value_of c.args.config.now) (Run c.args.frames) c.send.new.counters.drifts c.clocks-clocks.result (words_of l.notes.learned) c.drift_frame-sent.result c.in-Some.reply c.in-Some-judge_drift.refusal refl reference many
+    c.judge_drift.ensures.valid (sym c.in-Some-judge_drift.ensures.is)

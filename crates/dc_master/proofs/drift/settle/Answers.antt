@@ -1,4 +1,6 @@
 use Rattle.std.proofs.Common.{◌≡◌, ◌∙◌, ◌<◌, Ok, Err, refl, sym, ap, arith, length}
+use Rattle.dc_master.proofs.Causes.{cause_as, drift_causes}
+use Rattle.master_script.specs.Script.{Settle as SettleCall}
 use Rattle.ecat_frame.specs.Built.{built}
 use Rattle.ecat_link.proofs.Serving.{serves_none, serves_weaker}
 use Rattle.dc_master.specs.ConfigRange.{value_of}
@@ -103,3 +105,15 @@ pub returns-clause-ready : goal.returns-clause-ready
 returns-clause-ready g c =
     let l = c.loop-number in
     ready_timed (value_of c.args.config.now) (words_of c.args.notes.now.learned) (words_of l.notes.learned) l.notes.learned.time c.args.notes.now.delays.items l.notes.delays.items l.invariant.words l.invariant.delays c.requires.ready
+
+pub returns-in-Err-clause-caused : goal.returns-in-Err-clause-caused
+returns-in-Err-clause-caused g c =
+    let cfg = value_of c.args.config.now in
+    let l = c.loop-number in
+    let e = c.in-Err.ensures in
+    let w = words_of l.notes.learned in
+    let same = sym l.invariant.words in
+    let reference = c.drift_frame-sent.ensures ∙ ap (λ k. built (drift_datagrams k)) (c.reference_or_0.ensures ∙ ap (λ (x : Words). reference_of x) same) in
+    let many = c.clocks-clocks.ensures.is ∙ ap (λ (x : Words). length (clocks x.slaves)) same in
+    cause_as cfg SettleCall c.send.new.counters c.receive_time.new.notes.counters w (words_of c.receive_time.new.notes.learned) c.in-Err.refusal e.counters e.is.1
+    (drift_causes cfg SettleCall c.send.new.counters.drifts c.clocks-clocks.result w c.drift_frame-sent.result c.in-Some.reply c.in-Err.refusal refl reference many c.receive_time.ensures.valid e.is.0)

@@ -1,4 +1,5 @@
 use Rattle.ecat_link.proofs.Serving.{serves_weaker}
+use Rattle.dc_master.proofs.Causes.{received_causes}
 use Rattle.dc_master.specs.ConfigRange.{value_of}
 use Rattle.dc_master.specs.Known.{words_of}
 use Rattle.dc_master.specs.Places.{phase_of}
@@ -20,3 +21,7 @@ returns-in-Some-clause-lost g c q e =
 
 pub returns-in-None-clause-serves : goal.returns-in-None-clause-serves
 returns-in-None-clause-serves g c rest = c.in-None.ensures.serves (words_of c.args.notes.now.learned) rest c.frame-sent.ensures
+
+pub returns-in-Some-clause-caused : goal.returns-in-Some-clause-caused
+returns-in-Some-clause-caused g c =
+    received_causes (value_of c.args.config.now) c.ask.new.counters.sent c.args.step c.frame-sent.result c.in-Some.reply (words_of c.args.notes.now.learned) (words_of c.receive.new.notes.learned) c.receive.result c.frame-sent.ensures c.receive.ensures.valid c.receive.ensures.is
