@@ -1,5 +1,1 @@
-pub mod Rows
-pub mod Configured
-pub mod Begun
-pub mod Told
 pub mod Serving

@@ -3,7 +3,6 @@ pub mod Steps
 pub mod Outcomes
 pub mod Seen
 pub mod CheckText
-pub mod RunReports
-pub mod Called
+pub mod Runs
 pub mod Written
 pub mod Answers

@@ -7,13 +7,16 @@
 #![tactic(auto)]
 
 mod check;
-mod made;
+mod files;
 mod outcome;
-mod reports;
+mod reading;
+mod report;
+mod runs;
 mod seg_fault;
 mod segment_input;
 mod step_text;
 mod top;
+mod write;
 
 pub use outcome::Outcome;
 pub use seg_fault::SegFault;

@@ -5,7 +5,7 @@ use std::fmt;
 #[derive(Clone, Copy, Debug, PartialEq, Eq)]
 pub enum SegFault {
     /// The value at this path is missing, of a wrong type or out of its range, stands at a key that does not belong there, or has a key that
-    /// is not known.
+    /// is not known; it is a list with too many entries, a loss that is listed twice, or a tick that is not above the one before.
     Shape(KeyPath),
     /// The id of the first row whose id an earlier row has.
     Twice(Id),
@@ -18,7 +18,7 @@ pub enum SegFault {
     NoReference,
     /// The first slave in frame order that measures and cannot be measured.
     Unmeasurable(Id),
-    /// A frame does not come back within a frame period.
+    /// A frame does not come back in less than a frame period.
     TooSlow,
     /// The clocks need not come together.
     NoLock,

@@ -1,17 +1,19 @@
 //! Laws over the definitions alone, for proofs of the layers above. They speak of any legal segment.
 
-ghost use Rattle.std.specs.Prelude.{◌≡◌, ℕ, ◌<◌, ◌≤◌, [], Some, None, IsSome, Ok, length};
+ghost use Rattle.std.specs.Prelude.{◌≡◌, ℕ, ◌<◌, ◌≤◌, [], Option, Some, None, IsSome, Ok, Err, length};
 ghost use Rattle.master_script.specs.Scripted.{AreScripted};
+ghost use Rattle.ecat_link.specs.Exchanges.{Runs};
 ghost use Rattle.ecat_link.specs.Serves.{Serves};
 ghost use Rattle.master_script.specs.Kept.{Kept, StandsFor, Ends};
 ghost use Rattle.master_script.specs.Script.{Answer, Commission, Settle, Arm, Run, script};
 ghost use Rattle.frame_pass.specs.Invariants.{IsSoundSegment};
-ghost use Rattle.frame_pass.specs.SegmentState.{SegmentState, segment_step};
+ghost use Rattle.frame_pass.specs.SegmentState.{SegmentState, segment_step, finished};
 ghost use Rattle.segment_start.specs.Start.{started_segment};
 ghost use Rattle.segment_file.specs.Segment.{SegmentValue};
 ghost use Rattle.segment_file.specs.Legal.{IsLegal};
 ghost use Rattle.run_of_file.specs.MasterOfFile.{master_of};
-ghost use Rattle.run_of_file.specs.RunOfFile.{RunEnd, commissioned, settled, armed, ran, run_of, frames_given, master_after};
+ghost use Rattle.master_script.specs.declared.step.MasterError.{MasterError};
+ghost use Rattle.run_of_file.specs.RunOfFile.{RunEnd, commissioned, settled, armed, ran, run_of, end_of_run, frames_given, master_after};
 ghost use Rattle.run_of_file.specs.AtEnd.{IsAtEnd};
 
 /// The master of a legal segment is told of each slave once, and its numbers lie in their ranges.
@@ -39,6 +41,26 @@ pub fn runs_follow_the_script()
     ensures settled { (s : SegmentValue) (run : RunEnd) → IsLegal s → settled s ≡ Some run → AreScripted (master_of s) (frames_given s) run.exchanges × IsSoundSegment run.state }
     ensures armed { (s : SegmentValue) (run : RunEnd) → IsLegal s → armed s ≡ Some run → AreScripted (master_of s) (frames_given s) run.exchanges × IsSoundSegment run.state }
     ensures ran { (s : SegmentValue) (run : RunEnd) → IsLegal s → ran s ≡ Some run → AreScripted (master_of s) (frames_given s) run.exchanges × IsSoundSegment run.state }
+{}
+
+/// The exchanges of a run are those that the segment makes of its frames, from its start on, and they are few.
+pub fn runs_are_the_segments()
+    ensures commissioned { (s : SegmentValue) (run : RunEnd) → commissioned s ≡ Some run → Runs segment_step (Some (started_segment s)) run.exchanges (Some run.state) }
+    ensures settled { (s : SegmentValue) (run : RunEnd) → settled s ≡ Some run → Runs segment_step (Some (started_segment s)) run.exchanges (Some run.state) }
+    ensures armed { (s : SegmentValue) (run : RunEnd) → armed s ≡ Some run → Runs segment_step (Some (started_segment s)) run.exchanges (Some run.state) }
+    ensures ran { (s : SegmentValue) (run : RunEnd) → ran s ≡ Some run → Runs segment_step (Some (started_segment s)) run.exchanges (Some run.state) }
+    ensures few { (s : SegmentValue) (run : RunEnd) → IsLegal s → ran s ≡ Some run → run.state.sent ≤ 203097 }
+{}
+
+/// A phase that ends in a refusal ends the run; one that ends with Ok goes on, and behind the last one every clock goes on to
+/// the end of the run.
+pub fn refusals_end_the_run()
+    ensures commissioned { (s : SegmentValue) (state : SegmentState) (m : Kept) (e : MasterError) → IsAtEnd s None (commissioned s) state m (Err e) → IsAtEnd s None (run_of s) state m (Err e) }
+    ensures settled { (s : SegmentValue) (state : SegmentState) (m : Kept) (e : MasterError) → IsAtEnd s None (settled s) state m (Err e) → IsAtEnd s None (run_of s) state m (Err e) }
+    ensures armed { (s : SegmentValue) (state : SegmentState) (m : Kept) (e : MasterError) → IsAtEnd s None (armed s) state m (Err e) → IsAtEnd s None (run_of s) state m (Err e) }
+    ensures ran { (s : SegmentValue) (frames : Option ℕ) (state : SegmentState) (m : Kept) (e : MasterError) → IsAtEnd s frames (ran s) state m (Err e) → IsAtEnd s frames (run_of s) state m (Err e) }
+    ensures whole { (s : SegmentValue) (frames : Option ℕ) (state : SegmentState) (m : Kept) → IsAtEnd s frames (ran s) state m (Ok tt)
+        → IsAtEnd s frames (run_of s) (finished (end_of_run s state) state) m (Ok tt) }
 {}
 
 /// A master that calls over a segment's step makes the run of the file: what each call leaves is the end of the run up to

@@ -1,0 +1,6 @@
+pub mod Told
+pub mod Lists
+pub mod Own
+pub mod KeptEdges
+pub mod EdgesOfRun
+pub mod Pieces

@@ -1,0 +1,105 @@
+ghost use Rattle.std.specs.Prelude.{◌≡◌, ◌++◌, IfOk, OnOk, Ok};
+ghost use Rattle.edge_report.specs.EdgeRows.{edge_rows};
+ghost use Rattle.edge_report.specs.Edges.{AreEdges};
+ghost use Rattle.segment_bench.specs.BenchRun.{HasRun};
+ghost use Rattle.bench_report.specs.Edges.{edges_told};
+ghost use Rattle.bench_report.specs.Reports.{drill_text, report_text, summary_text, table_text};
+
+use crate::delays::delays;
+use crate::edges::edges;
+use dc_base::NoMemory;
+use dc_bench::Bench;
+use edge_report::{SlaveEdge, edges_csv, run_summary};
+use segment_file::Segment;
+use std::alloc::Global;
+
+/// The table of delays of a bench whose master has commissioned the segment.
+#[tactic(auto, unfolding(crate::specs::Reports::table_text))]
+pub fn delay_table(alloc: Global, segment: &Segment, bench: &Bench) -> Result<Vec<u8>, NoMemory>
+    ensures { IfOk result (λ text. text.items ≡ table_text segment.now bench.now) }
+{
+    let Ok(delays) = delays(alloc, segment, bench) else {
+        return Err(NoMemory);
+    };
+    let master = bench.master();
+    edge_report::delay_table(alloc, segment, &delays, master.sent(), master.lost())
+}
+
+// The summary of a run, with these edges.
+#[tactic(auto, unfolding(crate::specs::Reports::summary_text))]
+fn summary(
+    alloc: Global,
+    segment: &Segment,
+    bench: &Bench,
+    edges: &[SlaveEdge],
+    slave_lines: bool,
+) -> Result<Vec<u8>, NoMemory>
+    requires are { AreEdges segment.now edges.now }
+    requires told { edges.now ≡ edges_told segment.now bench.now.wire }
+    ensures { IfOk result (λ text. text.items ≡ summary_text segment.now bench.now slave_lines) }
+{
+    let Ok(delays) = delays(alloc, segment, bench) else {
+        return Err(NoMemory);
+    };
+    let master = bench.master();
+    let start = master.start().unwrap_or(0);
+    run_summary(
+        alloc,
+        segment,
+        &delays,
+        start,
+        master.sent(),
+        master.lost(),
+        edges,
+        slave_lines,
+    )
+}
+
+// Puts the rows of these edges behind a text.
+fn push_rows(
+    alloc: Global,
+    text: &mut Vec<u8>,
+    segment: &Segment,
+    edges: &[SlaveEdge],
+) -> Result<(), NoMemory>
+    requires { AreEdges segment.now edges.now }
+    ensures { OnOk result (text.new.items ≡ text.old.items ++ edge_rows segment.now edges.now) }
+{
+    let rows = edges_csv(alloc, segment, edges)?;
+    match text.extend_from_slice(&rows) {
+        Ok(()) => Ok(()),
+        Err(_) => Err(NoMemory),
+    }
+}
+
+/// The report of a whole run: the summary with the lines of the slaves, and behind it the rows of the edges
+/// where `with_rows` is set.
+pub fn run_report(
+    alloc: Global,
+    segment: &Segment,
+    bench: &Bench,
+    with_rows: bool,
+) -> Result<Vec<u8>, NoMemory>
+    requires { HasRun segment.now bench.now (Ok tt) }
+    ensures { IfOk result (λ text. text.items ≡ report_text segment.now bench.now with_rows) }
+{
+    let Ok(edges) = edges(alloc, segment, bench) else {
+        return Err(NoMemory);
+    };
+    let mut text = summary(alloc, segment, bench, &edges, true)?;
+    if with_rows {
+        push_rows(alloc, &mut text, segment, &edges)?;
+    }
+    Ok(text)
+}
+
+/// The report of a whole run without the lines of the slaves.
+pub fn drill_report(alloc: Global, segment: &Segment, bench: &Bench) -> Result<Vec<u8>, NoMemory>
+    requires { HasRun segment.now bench.now (Ok tt) }
+    ensures { IfOk result (λ text. text.items ≡ drill_text segment.now bench.now) }
+{
+    let Ok(edges) = edges(alloc, segment, bench) else {
+        return Err(NoMemory);
+    };
+    summary(alloc, segment, bench, &edges, false)
+}

@@ -1,7 +1,0 @@
-use Rattle.dc_top.proofs.Rows.{row_low}
-use Rattle.dc_top.proofs.made.kinds.Goals as goal
-
-pub kind-requires : goal.kind-requires
-kind-requires c =
-    row_low c.args.segment.now c.tree.result.now c.order-row-items.result.now c.loop-row.row-index c.tree.ensures.legal c.tree.ensures.is c.order-row-items.ensures.is
-    c.loop-row-test.true

@@ -1,6 +1,0 @@
-use Rattle.std.proofs.Common.{◌≡◌, map, take}
-use Rattle.run_of_file.specs.MasterOfFile.{kind_of, row_of}
-use Rattle.dc_top.proofs.made.kinds.Given as goal
-
-abbrev pub invariant-loop-row : goal.invariant-loop-row
-invariant-loop-row l = l.kinds.items ≡ map (λ r. kind_of (row_of l.segment r)) (take l.row-index l.row-items)

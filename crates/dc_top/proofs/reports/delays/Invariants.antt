@@ -1,7 +1,0 @@
-use Rattle.std.proofs.Common.{◌≡◌, map}
-use Rattle.std.specs.List.{range_with_len}
-use Rattle.dc_top.specs.RunReports.{delay_told}
-use Rattle.dc_top.proofs.reports.delays.Given as goal
-
-abbrev pub invariant-loop-position : goal.invariant-loop-position
-invariant-loop-position l = l.delays.items ≡ map (delay_told l.segment l.bench.master) (range_with_len 0 l.position)

@@ -1,0 +1,47 @@
+-- The commands that drive a master over a wire: how far the run of a segment goes, and what is written of it.
+use Rattle.std.specs.Prelude.{◌≡◌, ℕ, List, Option, Some, None, Ok, Err}
+use Rattle.dc_bench.specs.BenchState.{BenchState}
+use Rattle.master_script.specs.Script.{Answer}
+use Rattle.master_script.specs.declared.step.MasterError.TheVariants.{Refused}
+use Rattle.master_script.specs.declared.step.Refusal.TheVariants.{Lost}
+use Rattle.master_script.specs.declared.step.Step.{Step}
+use Rattle.run_of_file.specs.AtEnd.{IsAtEnd}
+use Rattle.run_of_file.specs.RunOfFile.{commissioned}
+use Rattle.segment_bench.specs.BenchRun.{HasRun}
+use Rattle.segment_file.specs.Segment.{SegmentValue}
+use Rattle.bench_report.specs.Reports.{drill_text, report_text, table_text}
+use Rattle.dc_top.specs.declared.report.Report.{Report}
+use Rattle.dc_top.specs.declared.report.Report.TheVariants.{Delays, Run, Drill}
+
+-- the bench stands where its run has come, with this answer: `delays` goes to the end of commissioning, the others to the end of the run
+abbrev pub HasMade : Report → SegmentValue → BenchState → Answer → Type 0
+HasMade Delays s b answer = IsAtEnd s None (commissioned s) b.wire b.master answer
+HasMade (Run edges) s b answer = HasRun s b answer
+HasMade Drill s b answer = HasRun s b answer
+
+-- what is written of it
+abbrev pub text_of : Report → SegmentValue → BenchState → List ℕ
+text_of Delays s b = table_text s b
+text_of (Run edges) s b = report_text s b edges
+text_of Drill s b = drill_text s b
+
+-- a bench has made the run of such a segment, and the text is what is written of it
+pub record IsReportOf (report : Report) (IsIt : SegmentValue → Type 0) (text : List ℕ) (bench : BenchState) : Type 0 where
+  pub segment : SegmentValue
+  pub is : IsIt segment
+  pub run : HasMade report segment bench (Ok tt)
+  pub written : text ≡ text_of report segment bench
+
+abbrev pub IsReport : Report → (SegmentValue → Type 0) → List ℕ → Option BenchState → Type 0
+IsReport report IsIt text None = ⊥
+IsReport report IsIt text (Some b) = IsReportOf report IsIt text b
+
+-- no try of this step of the run of such a segment came back
+pub record IsLostBy (report : Report) (IsIt : SegmentValue → Type 0) (step : Step) (bench : BenchState) : Type 0 where
+  pub segment : SegmentValue
+  pub is : IsIt segment
+  pub run : HasMade report segment bench (Err (Refused (Lost step)))
+
+abbrev pub IsLost : Report → (SegmentValue → Type 0) → Step → Option BenchState → Type 0
+IsLost report IsIt step None = ⊥
+IsLost report IsIt step (Some b) = IsLostBy report IsIt step b

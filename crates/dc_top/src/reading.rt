@@ -1,0 +1,28 @@
+ghost use Rattle.std.specs.Prelude.{◌≡◌};
+ghost use Rattle.dc_top.specs.Answers.{reading};
+
+use dc_words::Command;
+
+/// What a command does with the input.
+#[derive(Clone, Copy)]
+pub(crate) enum InputUse {
+    /// It reads the input to its end.
+    WholeInput,
+    /// It reads nothing.
+    NoInput,
+    /// It is not built yet.
+    NotBuilt,
+}
+
+/// What a command does with the input.
+pub(crate) fn reading(command: &Command) -> InputUse
+    ensures { result ≡ reading command.now }
+{
+    match command {
+        Command::Run { .. } | Command::Delays | Command::Check | Command::Show | Command::Migrate =>
+            InputUse::WholeInput,
+        Command::Gen { .. } | Command::Drill { .. } => InputUse::NoInput,
+        Command::Trace | Command::Audit | Command::Again | Command::Latch { .. } | Command::Rate =>
+            InputUse::NotBuilt,
+    }
+}

@@ -1,0 +1,2 @@
+pub mod NewBench
+pub mod BenchRun
