@@ -1,0 +1,10 @@
+pub mod Stepping
+pub mod Tries
+pub mod Numbers
+pub mod Walking
+pub mod Replies
+pub mod Commissioning
+pub mod Settling
+pub mod Arming
+pub mod Ends
+pub mod Commissioned
