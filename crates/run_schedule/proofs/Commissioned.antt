@@ -32,7 +32,7 @@ use Rattle.run_schedule.specs.Answers.{answer_for}
 use Rattle.run_schedule.specs.Honest.{TellsKinds, IsRefusedForLoss}
 use Rattle.run_schedule.proofs.Commissioning.{Asks, Done, Stops, StandsBy, Stands, steps_known, known_of, beginning_stands, after_stands}
 use Rattle.run_schedule.proofs.Ends.{ended, refused_at_end, never_spent, step_asked}
-use Rattle.run_schedule.proofs.Numbers.{InStep, in_step, in_phase, starts_in_step}
+use Rattle.run_schedule.proofs.Numbers.{in_phase, starts_in_step}
 use Rattle.run_schedule.proofs.Walking.{IsNext, walk}
 
 nothing_sent : (cfg : ConfigValue) → progress cfg [] ≡ beginning cfg
@@ -63,7 +63,7 @@ one_step s es e wanted now stands =
 pub record HasCommissioned (s : SegmentValue) (state : SegmentState) (es : List Exchange) : Type 0 where
   pub scripted : AreScripted (master_of s) (frames_given s) es
   pub sends : Sends (script (master_of s) Commission) [] es
-  pub in_step : InStep s (progress (master_of s) es) state
+  pub runs : Runs segment_step (Some (started_segment s)) es (Some state)
   pub stands : Stands (loses s frames.Commission) (master_of s) (progress (master_of s) es)
 
 pub has_commissioned : (s : SegmentValue) → IsLegal s → (run : RunEnd) → commissioned s ≡ Some run → HasCommissioned s run.state run.exchanges × (script (master_of s) Commission run.exchanges ≡ ended run.answer)
@@ -79,7 +79,7 @@ has_commissioned s legal run is =
           (record {
             scripted = made;
             sends = d.script;
-            in_step = in_step s legal d.more run.state made d.runs;
+            runs = d.runs;
             stands = walk s legal Commission tt (Stands lost cfg) (one_step s) [] d.more (started_segment s) run.state none (starts_in_step s) first d.script d.runs;
           }),
       d.end,
@@ -117,18 +117,22 @@ commission_lost s legal run is tells lost answer =
     lost_by s legal p tells lost p.words.reference refl stops.lost_step
 
 -- ended with Ok
-pub commission_came : (s : SegmentValue) → IsLegal s → (run : RunEnd) → commissioned s ≡ Some run → TellsKinds s (progress (master_of s) run.exchanges).words → run.answer ≡ Ok tt
-    → asked (loses s frames.Commission) 1 (commission_steps s) ≡ Ok ((progress (master_of s) run.exchanges).sent + 1)
-commission_came s legal run is tells answer =
+pub commission_ended : (s : SegmentValue) → IsLegal s → (run : RunEnd) → commissioned s ≡ Some run → run.answer ≡ Ok tt → Done (loses s frames.Commission) (master_of s) (progress (master_of s) run.exchanges)
+commission_ended s legal run is answer =
     let cfg = master_of s in
     let p = progress cfg run.exchanges in
     let lost = loses s frames.Commission in
     let h = has_commissioned s legal run is in
     let begins = (commission_done cfg run.exchanges h.0.sends (h.1 ∙ ap ended answer)).0 in
-    let done : Done lost cfg p =
-    subst (λ (x : Phase). StandsBy lost cfg p None x) begins.phase_is (subst (λ (o : Option Refusal). StandsBy lost cfg p o p.phase) begins.unrefused h.0.stands) in
+    subst (λ (x : Phase). StandsBy lost cfg p None x) begins.phase_is (subst (λ (o : Option Refusal). StandsBy lost cfg p o p.phase) begins.unrefused h.0.stands)
+
+pub commission_came : (s : SegmentValue) → IsLegal s → (run : RunEnd) → commissioned s ≡ Some run → TellsKinds s (progress (master_of s) run.exchanges).words → run.answer ≡ Ok tt
+    → asked (loses s frames.Commission) 1 (commission_steps s) ≡ Ok ((progress (master_of s) run.exchanges).sent + 1)
+commission_came s legal run is tells answer =
+    let p = progress (master_of s) run.exchanges in
+    let done = commission_ended s legal run is answer in
     let x = done.judged in
-    ap (asked lost 1) (sym (first_told s legal (later_steps p.words.slaves) (later_told s p.words.slaves (tells.measuring x.0 x.1) (tells.clocks x.0 x.1)))) ∙ done.all
+    ap (asked (loses s frames.Commission) 1) (sym (first_told s legal (later_steps p.words.slaves) (later_told s p.words.slaves (tells.measuring x.0 x.1) (tells.clocks x.0 x.1)))) ∙ done.all
 
 -- the answer
 pub commission_answers : (s : SegmentValue) → IsLegal s → (run : RunEnd) → commissioned s ≡ Some run → TellsKinds s (progress (master_of s) run.exchanges).words → IsRefusedForLoss run
@@ -145,3 +149,8 @@ commission_answers s legal run is tells honest = by_answer run.answer refl
     by_answer (Ok tt) e = ap (λ (r : Result ℕ Step). answer_for (result_err r)) (sym (commission_came s legal run is tells e))
     by_answer (Err (Refused r)) e = by_refusal r e
     by_answer (Err (Spent r)) e = absurd (never_spent (master_of s) Commission run.exchanges r ((has_commissioned s legal run is).1 ∙ ap ended e))
+
+-- then the clocks that were told are the file's
+pub known_clocks : (s : SegmentValue) → IsLegal s → (run : RunEnd) → commissioned s ≡ Some run → TellsKinds s (progress (master_of s) run.exchanges).words → run.answer ≡ Ok tt
+    → clocks (progress (master_of s) run.exchanges).words.slaves ≡ clock_positions s
+known_clocks s legal run is tells answer = let x = (commission_ended s legal run is answer).judged in tells.clocks x.0 x.1

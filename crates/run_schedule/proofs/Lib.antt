@@ -8,3 +8,8 @@ pub mod Settling
 pub mod Arming
 pub mod Ends
 pub mod Commissioned
+pub mod Following
+pub mod Settled
+pub mod ArmingRun
+pub mod Running
+pub mod Joined
