@@ -1,11 +1,11 @@
 -- The answer of arming, by the list of losses.
-use Rattle.std.proofs.Common.{◌≡◌, ℕ, ◌+◌, ◌<◌, ◌≤◌, List, [], ◌∷◌, ◌++◌, map, Option, Some, None, is_none, Result, Ok, Err, refl, sym, ap, subst, ◌∙◌, arith}
+use Rattle.std.proofs.Common.{◌≡◌, ℕ, ◌+◌, List, [], ◌++◌, map, Option, Some, None, is_none, Result, Ok, Err, refl, sym, ap, subst, ◌∙◌, arith}
 use Rattle.std.proofs.lemmas.List.{append-nil}
 use Rattle.std.specs.Result.{result_err}
 use Rattle.ecat_link.specs.Exchanges.{Exchange}
 use Rattle.ecat_link.specs.Serves.{Send}
 use Rattle.master_script.specs.Begins.{Begins}
-use Rattle.master_script.specs.Config.{ConfigValue, settle_frames}
+use Rattle.master_script.specs.Config.{settle_frames}
 use Rattle.master_script.specs.Progress.{Phase, Commissioning, Settling, Arming, Running, Progress, progress, after, arm_steps}
 use Rattle.master_script.specs.Script.{Answer, script, Arm}
 use Rattle.master_script.specs.Slaves.{SlaveWords, clocks}
@@ -49,7 +49,7 @@ one_arms s begin all es e wanted now stands =
     let some = step_asked cfg Arm es e.wait_ns e.sent tt wanted in
     after_arms lost begin all cfg p e some.0 some.1 phase.0 phase.1 some.2 (arms_of lost begin all p p.refused p.phase phase.0 phase.1 stands) (now (p.drifts + 1) refl)
 
-master_first : (s : SegmentValue) → settle_frames (master_of s) + 1 ≡ first_arming s
+pub master_first : (s : SegmentValue) → settle_frames (master_of s) + 1 ≡ first_arming s
 unfolding master_of
 master_first s = omega arith
 

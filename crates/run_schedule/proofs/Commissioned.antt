@@ -30,7 +30,7 @@ use Rattle.run_of_file.specs.RunOfFile.{RunEnd, turns, frames_given, commissione
 use Rattle.run_of_file.proofs.InRange.{as_many_kinds}
 use Rattle.run_schedule.specs.Answers.{answer_for}
 use Rattle.run_schedule.specs.Honest.{TellsKinds, IsRefusedForLoss}
-use Rattle.run_schedule.proofs.Commissioning.{Asks, Done, Stops, StandsBy, Stands, steps_known, known_of, beginning_stands, after_stands}
+use Rattle.run_schedule.proofs.Commissioning.{Asks, Done, Stops, StandsBy, Stands, steps_known, beginning_stands, after_stands}
 use Rattle.run_schedule.proofs.Ends.{ended, refused_at_end, never_spent, step_asked}
 use Rattle.run_schedule.proofs.Numbers.{in_phase, starts_in_step}
 use Rattle.run_schedule.proofs.Walking.{IsNext, walk}
@@ -73,8 +73,7 @@ has_commissioned s legal run is =
     let lost = loses s frames.Commission in
     let d = driven segment_step (script cfg Commission) turns [] (started_segment s) run is in
     let made = calls_scripted cfg (frames_given s) Commission [] d.more tt none d.script in
-    let first : Stands lost cfg (progress cfg []) = subst (λ (p : Progress). Stands lost cfg p) (sym (nothing_sent cfg)) (beginning_stands lost cfg) in
-    (
+    let first : Stands lost cfg (progress cfg []) = subst (λ (p : Progress). Stands lost cfg p) (sym (nothing_sent cfg)) (beginning_stands lost cfg) in (
       subst (λ (es : List Exchange). HasCommissioned s run.state es) (sym d.all)
           (record {
             scripted = made;

@@ -1,5 +1,5 @@
 -- A call behind those before it.
-use Rattle.std.proofs.Common.{◌≡◌, ℕ, List, [], ◌∷◌, ◌++◌, Option, Some, None, Ok, Err, refl, sym, ap, subst, ◌∙◌}
+use Rattle.std.proofs.Common.{◌≡◌, List, ◌++◌, Option, Some, None, Ok, Err, refl, sym, subst}
 use Rattle.ecat_link.specs.Exchanges.{Exchange, Runs}
 use Rattle.ecat_link.specs.Serves.{Sends}
 use Rattle.ecat_link.proofs.Driving.{driven}
@@ -8,7 +8,7 @@ use Rattle.master_script.specs.Script.{Answer, Call, script}
 use Rattle.master_script.specs.Scripted.{AreScripted, IsLimited}
 use Rattle.master_script.specs.declared.step.MasterError.{MasterError}
 use Rattle.master_script.proofs.Limits.{calls_scripted}
-use Rattle.frame_pass.specs.SegmentState.{SegmentState, segment_step}
+use Rattle.frame_pass.specs.SegmentState.{segment_step}
 use Rattle.segment_file.specs.Segment.{SegmentValue}
 use Rattle.segment_start.specs.Start.{started_segment}
 use Rattle.run_of_file.specs.MasterOfFile.{master_of}

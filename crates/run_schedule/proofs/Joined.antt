@@ -1,15 +1,11 @@
 -- The answers of all phases, by the list of losses.
-use Rattle.std.proofs.Common.{◌≡◌, ℕ, ◌+◌, ◌≤◌, Bool, true, false, List, Option, Some, None, Ok, Err, refl, sym, ap, subst, ◌∙◌, arith}
-use Rattle.std.specs.Prelude.{if◌then◌else◌}
+use Rattle.std.proofs.Common.{◌≡◌, true, false, List, Option, Some, None, Ok, Err, refl, sym, ap, ◌∙◌}
 use Rattle.std.specs.Option.{option_or}
-use Rattle.ecat_link.specs.Exchanges.{Exchange}
 use Rattle.master_script.specs.Begins.{Begins}
 use Rattle.master_script.specs.Progress.{Settling, Running, progress}
-use Rattle.master_script.specs.Script.{Answer, Settle, Arm, Run}
+use Rattle.master_script.specs.Script.{Settle, Arm, Run}
 use Rattle.master_script.specs.Slaves.{SlaveWords, clocks}
 use Rattle.master_script.specs.declared.step.MasterError.{MasterError}
-use Rattle.master_script.specs.declared.step.MasterError.TheVariants.{Refused}
-use Rattle.master_script.specs.declared.step.Refusal.TheVariants.{Lost}
 use Rattle.master_script.specs.declared.step.Step.{Step}
 use Rattle.master_script.proofs.Calls.{commission_done}
 use Rattle.segment_file.specs.Segment.{SegmentValue}
@@ -18,11 +14,11 @@ use Rattle.lost_step.specs.LostStep.{clock_positions, lost_in_commissioning, los
 use Rattle.run_of_file.specs.MasterOfFile.{master_of}
 use Rattle.run_of_file.specs.RunOfFile.{RunEnd, frames_given, commissioned, settled, armed, ran}
 use Rattle.run_schedule.specs.Answers.{answer_for}
-use Rattle.run_schedule.specs.Honest.{TellsKinds, HasHonestReplies}
+use Rattle.run_schedule.specs.Honest.{HasHonestReplies}
 use Rattle.run_schedule.proofs.ArmingRun.{arm_answers, arm_done}
-use Rattle.run_schedule.proofs.Commissioned.{HasCommissioned, has_commissioned, commission_answers, known_clocks}
+use Rattle.run_schedule.proofs.Commissioned.{has_commissioned, commission_answers, known_clocks}
 use Rattle.run_schedule.proofs.Ends.{ended}
-use Rattle.run_schedule.proofs.Following.{IsLed, HasGone, Followed, on, off, followed, led_on}
+use Rattle.run_schedule.proofs.Following.{IsLed, Followed, on, off, followed, led_on}
 use Rattle.run_schedule.proofs.Running.{run_answers}
 use Rattle.run_schedule.proofs.Settled.{BeginsArming, settle_answers, settle_done}
 
@@ -53,20 +49,20 @@ late_came s h = by_step (lost_in_commissioning s) h
     by_step (Some step) h = absurd (let x = h in cc)
 
 -- where a phase ended with Ok and the next begins
-record IsCommissioned (s : SegmentValue) (run : RunEnd) : Type 0 where
-  led : IsLed s run
-  begins : Begins (master_of s) Settling (progress (master_of s) run.exchanges)
-  clocks_told : clocks (progress (master_of s) run.exchanges).words.slaves ≡ clock_positions s
+pub record IsCommissioned (s : SegmentValue) (run : RunEnd) : Type 0 where
+  pub led : IsLed s run
+  pub begins : Begins (master_of s) Settling (progress (master_of s) run.exchanges)
+  pub clocks_told : clocks (progress (master_of s) run.exchanges).words.slaves ≡ clock_positions s
 
-record IsSettled (s : SegmentValue) (run : RunEnd) : Type 0 where
-  slaves : List SlaveWords
-  clocks_told : clocks slaves ≡ clock_positions s
-  led : IsLed s run
-  begins : BeginsArming s slaves run.exchanges
+pub record IsSettled (s : SegmentValue) (run : RunEnd) : Type 0 where
+  pub slaves : List SlaveWords
+  pub clocks_told : clocks slaves ≡ clock_positions s
+  pub led : IsLed s run
+  pub begins : BeginsArming s slaves run.exchanges
 
-record IsArmed (s : SegmentValue) (run : RunEnd) : Type 0 where
-  led : IsLed s run
-  begins : Begins (master_of s) Running (progress (master_of s) run.exchanges)
+pub record IsArmed (s : SegmentValue) (run : RunEnd) : Type 0 where
+  pub led : IsLed s run
+  pub begins : Begins (master_of s) Running (progress (master_of s) run.exchanges)
 
 module _ (s : SegmentValue) (legal : IsLegal s) (honest : HasHonestReplies s) where
   pub commissioned_answers : (run : RunEnd) → commissioned s ≡ Some run → run.answer ≡ answer_for (lost_step_of s false)
@@ -74,7 +70,7 @@ module _ (s : SegmentValue) (legal : IsLegal s) (honest : HasHonestReplies s) wh
       let h = honest.commissioned run is in
       commission_answers s legal run is h.1 h.0 ∙ ap answer_for (sym (early s))
 
-  is_commissioned : (run : RunEnd) → commissioned s ≡ Some run → run.answer ≡ Ok tt → IsCommissioned s run
+  pub is_commissioned : (run : RunEnd) → commissioned s ≡ Some run → run.answer ≡ Ok tt → IsCommissioned s run
   is_commissioned run is ok =
       let h = has_commissioned s legal run is in
       record {
@@ -93,7 +89,7 @@ module _ (s : SegmentValue) (legal : IsLegal s) (honest : HasHonestReplies s) wh
           let c = is_commissioned first was ok in
           settle_answers s legal first run c.led c.begins gone (honest.settled run is) ∙ sym ok ∙ commissioned_answers first was
 
-  is_settled : (run : RunEnd) → settled s ≡ Some run → run.answer ≡ Ok tt → IsSettled s run
+  pub is_settled : (run : RunEnd) → settled s ≡ Some run → run.answer ≡ Ok tt → IsSettled s run
   unfolding settled
   is_settled run is ok = let f = followed s Settle (commissioned s) run is in by_follow f.0 f.1 f.2
     where
@@ -120,7 +116,7 @@ module _ (s : SegmentValue) (legal : IsLegal s) (honest : HasHonestReplies s) wh
           let c = is_settled first was ok in
           arm_answers s legal c.slaves first run c.clocks_told c.led c.begins gone (honest.armed run is) ∙ ap answer_for (late_came s (sym (settled_answers first was) ∙ ok))
 
-  is_armed : (run : RunEnd) → armed s ≡ Some run → run.answer ≡ Ok tt → IsArmed s run
+  pub is_armed : (run : RunEnd) → armed s ≡ Some run → run.answer ≡ Ok tt → IsArmed s run
   unfolding armed
   is_armed run is ok = let f = followed s Arm (settled s) run is in by_follow f.0 f.1 f.2
     where

@@ -13,3 +13,5 @@ pub mod Settled
 pub mod ArmingRun
 pub mod Running
 pub mod Joined
+pub mod Lengths
+pub mod Shape

@@ -1,12 +1,12 @@
 -- The segment and the script count alike.
-use Rattle.std.proofs.Common.{◌≡◌, ◌≢◌, ℕ, ◌+◌, ◌*◌, ◌<◌, ◌≤◌, Bool, true, false, cond, ltb, List, [], ◌∷◌, ◌++◌, length, Option, Some, None, slice_get, refl, sym, ap, subst, ◌∙◌, arith}
+use Rattle.std.proofs.Common.{◌≡◌, ℕ, ◌+◌, ◌*◌, ◌<◌, List, [], ◌∷◌, ◌++◌, length, Option, Some, None, refl, sym, ap, subst, ◌∙◌, arith}
 use Rattle.cable_tree.specs.PathSums.{round_trip}
 use Rattle.ecat_frame.specs.FrameGrammar.{FrameValue}
 use Rattle.ecat_link.specs.Exchanges.{Exchange, StepOf, Runs}
-use Rattle.ecat_link.specs.Serves.{Send, End}
+use Rattle.ecat_link.specs.Serves.{Send}
 use Rattle.master_script.specs.Config.{ConfigValue}
 use Rattle.master_script.specs.Progress.{Phase as ScriptPhase, Commissioning, Settling, Arming, Running, Progress, progress, after, drift_one}
-use Rattle.master_script.specs.Script.{script, Call, Commission, Settle, Arm, Run, asks_next, drifts_next, next_in, next_by}
+use Rattle.master_script.specs.Script.{script, Call, Commission, Settle, Arm, Run, next_in, next_by}
 use Rattle.master_script.specs.Scripted.{AreScripted, none, more}
 use Rattle.master_script.specs.declared.step.Refusal.{Refusal}
 use Rattle.master_script.proofs.Counts.{after_counts, after_drifts, progress_sent}
@@ -15,7 +15,7 @@ use Rattle.master_script.proofs.Limits.{sends_most}
 use Rattle.master_script.proofs.Wants.{phase_of as phase_of_call, wants, wanted_drift, wanted_other}
 use Rattle.segment_shape.specs.declared.loss_row.Phase.{Phase}
 use Rattle.segment_shape.specs.declared.loss_row.Phase.TheVariants as frames
-use Rattle.frame_pass.specs.SegmentState.{SegmentState, segment_step, phase_of, leaves_at}
+use Rattle.frame_pass.specs.SegmentState.{SegmentState, segment_step, phase_of}
 use Rattle.frame_pass.specs.Invariants.{IsOnTime}
 use Rattle.frame_pass.proofs.Schedule.{step_sent, on_time_step, next_leaves}
 use Rattle.segment_file.specs.Segment.{SegmentValue, tree_rows}

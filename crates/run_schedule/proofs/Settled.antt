@@ -1,5 +1,5 @@
 -- Settling ends with Ok, and arming begins behind K + m + 1 drift frames.
-use Rattle.std.proofs.Common.{◌≡◌, ℕ, ◌+◌, ◌<◌, ◌≤◌, true, false, List, [], ◌∷◌, ◌++◌, Option, Some, None, is_none, Ok, Err, refl, sym, ap, subst, ◌∙◌, arith}
+use Rattle.std.proofs.Common.{◌≡◌, ℕ, ◌+◌, ◌≤◌, true, false, List, ◌++◌, Option, Some, None, is_none, Ok, Err, refl, sym, ap, subst, ◌∙◌, arith}
 use Rattle.ecat_link.specs.Exchanges.{Exchange}
 use Rattle.ecat_link.specs.Serves.{Send}
 use Rattle.master_script.specs.Begins.{Begins}
@@ -12,7 +12,7 @@ use Rattle.master_script.specs.declared.step.Refusal.{Refusal}
 use Rattle.master_script.specs.declared.step.Refusal.TheVariants.{Lost}
 use Rattle.master_script.specs.declared.step.Step.{Step}
 use Rattle.master_script.proofs.Calls.{settle_sends}
-use Rattle.master_script.proofs.Pins.{IsSound, SoundBy, progress_sound}
+use Rattle.master_script.proofs.Pins.{SoundBy, progress_sound}
 use Rattle.segment_shape.specs.declared.loss_row.Phase.TheVariants as frames
 use Rattle.segment_shape.proofs.LossLemmas.{listed_by_loss}
 use Rattle.segment_file.specs.Segment.{SegmentValue}
@@ -105,3 +105,9 @@ settle_done s legal before run led begins gone ok =
     let now : Settles (loses s frames.Drift) cfg ss p = settles_of (loses s frames.Drift) cfg ss p p.refused b.unrefused (settle_stands s legal before run led begins gone) in
     let sound : SoundBy cfg p None Arming = rw (b.unrefused, b.phase_is) at (progress_sound cfg run.exchanges) in
     record { begins = b; slaves = now.slaves; todo = b.todo ∙ ap arm_steps now.slaves; tries = (sound.2 b.drifts).1; drifts = b.drifts }
+
+-- of m + 1 drift numbers in a row one comes
+pub one_drift_comes : (s : SegmentValue) → IsLegal s → (first : ℕ) → (number : ℕ) × (first ≤ number) × (number ≤ first + s.head.loss_run) × (loses s frames.Drift number ≡ false)
+one_drift_comes s legal first =
+    let one = one_comes s legal first in
+    (one.0, one.1, one.2, listed_by_loss s.losses frames.Drift one.0 ∙ one.3)

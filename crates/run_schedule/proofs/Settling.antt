@@ -1,11 +1,11 @@
 -- Settling: as long as no frame brought the time of the reference, all of them were lost.
-use Rattle.std.proofs.Common.{◌≡◌, ℕ, ◌+◌, ◌<◌, ◌≤◌, Bool, true, false, cond, eqb, ◌==◌, List, [], ◌∷◌, ◌++◌, Option, Some, None, is_none, refl, sym, ap, subst, ◌∙◌, arith}
+use Rattle.std.proofs.Common.{◌≡◌, ℕ, ◌+◌, ◌<◌, ◌≤◌, Bool, true, false, cond, eqb, ◌==◌, List, Option, Some, None, is_none, refl, sym, subst, ◌∙◌, arith}
 use Rattle.std.proofs.lemmas.Bool.Decides.{nat_tests}
 use Rattle.ecat_frame.specs.FrameGrammar.{FrameValue}
 use Rattle.ecat_link.specs.Exchanges.{Exchange}
 use Rattle.master_script.specs.Config.{ConfigValue, settle_frames}
 use Rattle.master_script.specs.Judged.{judged}
-use Rattle.master_script.specs.Progress.{Phase, Commissioning, Settling, Arming, Running, Progress, progress, after, counted, moved, settling, settled, settled_by, timed, brought}
+use Rattle.master_script.specs.Progress.{Phase, Commissioning, Settling, Arming, Running, Progress, after, counted, moved, settling, settled_by, timed, brought}
 use Rattle.master_script.specs.Slaves.{SlaveWords}
 use Rattle.master_script.specs.Steps.{expected}
 use Rattle.master_script.specs.declared.step.Refusal.{Refusal}

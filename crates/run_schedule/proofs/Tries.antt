@@ -1,9 +1,9 @@
 -- Exchanges of a phase, try by try, by the numbers of its frames alone.
-use Rattle.std.proofs.Common.{◌≡◌, ℕ, ◌+◌, ◌*◌, ◌<◌, ◌≤◌, Bool, true, false, List, [], ◌∷◌, ◌++◌, length, length-append, Option, Some, None, refl, sym, ap, subst, ◌∙◌, append_assoc, below_more, arith}
+use Rattle.std.proofs.Common.{◌≡◌, ℕ, ◌+◌, ◌*◌, ◌<◌, ◌≤◌, Bool, true, false, List, [], ◌∷◌, ◌++◌, length, length-append, Some, None, refl, sym, ap, subst, ◌∙◌, append_assoc, below_more, arith}
 use Rattle.std.proofs.lemmas.List.{append-nil}
-use Rattle.std.specs.Prelude.{Result, Ok, Err}
+use Rattle.std.specs.Prelude.{Ok, Err}
 use Rattle.master_script.specs.declared.step.Step.{Step}
-use Rattle.lost_step.specs.LostStep.{behind_tries, asked_on, asked}
+use Rattle.lost_step.specs.LostStep.{behind_tries, asked}
 use Rattle.lost_step.proofs.Asking.{none_comes, behind_came}
 
 -- The exchanges of these steps began at a number, and the steps that are left are still to be asked. The next frame has this number, and

@@ -1,5 +1,5 @@
 -- What holds from exchange to exchange of a call.
-use Rattle.std.proofs.Common.{◌≡◌, ℕ, ◌+◌, ◌<◌, List, [], ◌∷◌, ◌++◌, length, Option, Some, None, is_none, refl, sym, ap, subst, ◌∙◌, append_assoc, arith}
+use Rattle.std.proofs.Common.{◌≡◌, ℕ, ◌+◌, ◌<◌, List, [], ◌∷◌, ◌++◌, Option, Some, is_none, sym, ap, subst, ◌∙◌, append_assoc, arith}
 use Rattle.std.proofs.lemmas.List.{append-nil}
 use Rattle.std.specs.Prelude.{is_some}
 use Rattle.ecat_link.specs.Exchanges.{Exchange, Runs}
@@ -12,7 +12,7 @@ use Rattle.master_script.proofs.Folds.{progress_push}
 use Rattle.segment_shape.specs.Losses.{loss_at}
 use Rattle.segment_shape.specs.declared.loss_row.LossRow.{LossRow}
 use Rattle.segment_shape.specs.declared.loss_row.Phase.{Phase}
-use Rattle.frame_pass.specs.SegmentState.{SegmentState, segment_step, phase_of, number_of}
+use Rattle.frame_pass.specs.SegmentState.{SegmentState, segment_step, number_of}
 use Rattle.segment_file.specs.Segment.{SegmentValue}
 use Rattle.segment_file.specs.Legal.{IsLegal}
 use Rattle.run_of_file.specs.MasterOfFile.{master_of}
@@ -57,7 +57,6 @@ module _ (s : SegmentValue) (legal : IsLegal s) (call : Call) (limited : IsLimit
     (stepped : (es : List Exchange) (e : Exchange) → script (master_of s) call es ≡ Send e.wait_ns e.sent
     → ((number : ℕ) → IsNext call (progress (master_of s) es) number → loses s (frames_of call) number ≡ is_none e.back)
     → P (progress (master_of s) es) → P (after (master_of s) (progress (master_of s) es) e)) where
-
   pub walk : (before es : List Exchange) (t u : SegmentState) → AreScripted (master_of s) (frames_given s) before → InStep s (progress (master_of s) before) t
       → P (progress (master_of s) before) → Sends (script (master_of s) call) before es → Runs segment_step (Some t) es (Some u) → P (progress (master_of s) (before ++ es))
   walk before [] t u made both now sends runs = subst (λ (b : List Exchange). P (progress (master_of s) b)) (sym (append-nil before)) now

@@ -1,5 +1,5 @@
 -- What honest replies are, over the run of a segment.
-use Rattle.std.specs.Prelude.{◌≡◌, ℕ, Option, Some, Err}
+use Rattle.std.specs.Prelude.{◌≡◌, ℕ, Some, Err}
 use Rattle.lost_step.specs.LostStep.{measuring_positions, clock_positions}
 use Rattle.master_script.specs.Progress.{progress}
 use Rattle.master_script.specs.Slaves.{measuring, clocks}

@@ -1,4 +1,4 @@
-use Rattle.std.proofs.Common.{rules, ◌≡◌, Err, ◌∙◌, sym}
+use Rattle.std.proofs.Common.{rules, ◌≡◌, Err, ◌∙◌}
 use Rattle.lost_step.proofs.Commission.{count_ok, count_err, identify_ok, identify_err, rate_ok, rate_err, latch_ok, latch_err, times_ok, times_err, set_last}
 use Rattle.lost_step.proofs.phases.commission.Goals as goal
 

@@ -1,4 +1,4 @@
-use Rattle.std.proofs.Common.{◌≡◌, ◌+◌, ap, ◌∙◌, arith}
+use Rattle.std.proofs.Common.{◌≡◌, ◌+◌, arith}
 use Rattle.lost_step.specs.LostStep.{first_arming}
 use Rattle.lost_step.proofs.Commission.{lost_early, lost_nowhere, lost_late}
 use Rattle.lost_step.proofs.phases.lost_step.Goals as goal

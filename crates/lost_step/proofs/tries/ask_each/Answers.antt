@@ -1,4 +1,4 @@
-use Rattle.std.proofs.Common.{rules, ◌≡◌, ◌+◌, ◌*◌, ◌<◌, ◌≤◌, ◌∷◌, [], length, true, false, Ok, Err, sym, ap, ◌∙◌, arith}
+use Rattle.std.proofs.Common.{rules, ◌≡◌, ◌+◌, ◌<◌, ◌∷◌, [], length, Ok, Err, sym, ap, ◌∙◌, arith}
 use Rattle.lost_step.specs.LostStep.{asked, loses}
 use Rattle.lost_step.specs.Rounds.{phase_of, step_of, steps_of, takes_part}
 use Rattle.lost_step.proofs.Turns.{steps_from, round_taken, round_lost, round_skipped, round_over}
@@ -39,23 +39,23 @@ loop-position-preserved c =
     let all = asked (loses s (phase_of round)) c.args.first (steps_of s round) in
     elim c.if-takes_part.branch [
       | then-takes_part+in_ok-number w ↦
-        let b = w.in_ok-number.number in
-        let came : Ok b ≡ asked (loses s (phase_of round)) c.loop-position.number (step_of round p ∷ []) =
-        w.in_ok-number.ensures.is
-        ∙ ap (λ x. asked (loses s x) c.loop-position.number (w.step_of.result ∷ [])) w.phase_of.ensures
-        ∙ ap (λ x. asked (loses s (phase_of round)) c.loop-position.number (x ∷ [])) w.step_of.ensures in
-        let near = w.in_ok-number.ensures.few in
-        let is = w.number-is in (
-          round_taken (loses s (phase_of round)) (takes_part s round) (step_of round) n p c.loop-position.number all c.loop-position.invariant.0 b low (sym c.takes_part.ensures ∙ w.if-takes_part.true) came
-              ∙ ap (λ k. asked (loses s (phase_of round)) k (steps_from (takes_part s round) (step_of round) n (p + 1))) (sym is),
-          omega (arith, near, is, few),
-        )
+          let b = w.in_ok-number.number in
+          let came : Ok b ≡ asked (loses s (phase_of round)) c.loop-position.number (step_of round p ∷ []) =
+          w.in_ok-number.ensures.is
+          ∙ ap (λ x. asked (loses s x) c.loop-position.number (w.step_of.result ∷ [])) w.phase_of.ensures
+          ∙ ap (λ x. asked (loses s (phase_of round)) c.loop-position.number (x ∷ [])) w.step_of.ensures in
+          let near = w.in_ok-number.ensures.few in
+          let is = w.number-is in (
+            round_taken (loses s (phase_of round)) (takes_part s round) (step_of round) n p c.loop-position.number all c.loop-position.invariant.0 b low (sym c.takes_part.ensures ∙ w.if-takes_part.true) came
+                ∙ ap (λ k. asked (loses s (phase_of round)) k (steps_from (takes_part s round) (step_of round) n (p + 1))) (sym is),
+            omega (arith, near, is, few),
+          )
       | else-takes_part w ↦
-        let is = w.number-is in (
-          round_skipped (loses s (phase_of round)) (takes_part s round) (step_of round) n p c.loop-position.number all c.loop-position.invariant.0 low (sym c.takes_part.ensures ∙ w.if-takes_part.false)
-              ∙ ap (λ k. asked (loses s (phase_of round)) k (steps_from (takes_part s round) (step_of round) n (p + 1))) (sym is),
-          omega (arith, is, few),
-        )
+          let is = w.number-is in (
+            round_skipped (loses s (phase_of round)) (takes_part s round) (step_of round) n p c.loop-position.number all c.loop-position.invariant.0 low (sym c.takes_part.ensures ∙ w.if-takes_part.false)
+                ∙ ap (λ k. asked (loses s (phase_of round)) k (steps_from (takes_part s round) (step_of round) n (p + 1))) (sym is),
+            omega (arith, is, few),
+          )
     ]
 
 pub returns-clause-is : goal.returns-clause-is
