@@ -1,0 +1,2 @@
+pub mod LostStep
+pub mod Rounds

@@ -1,0 +1,3 @@
+pub mod OnTheWay
+pub mod Honest
+pub mod Answers
