@@ -1,4 +1,4 @@
-pub mod Told
+pub mod Measured
 pub mod Lists
 pub mod Own
 pub mod KeptEdges

@@ -1,3 +1,2 @@
-pub mod Delays
 pub mod Edges
 pub mod Reports

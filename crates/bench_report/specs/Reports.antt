@@ -5,17 +5,16 @@ use Rattle.edge_report.specs.EdgeRows.{edge_rows}
 use Rattle.edge_report.specs.Reports.{delay_table_text, run_summary_text}
 use Rattle.edge_report.specs.declared.slave_edge.SlaveEdge.{SlaveEdge}
 use Rattle.segment_file.specs.Segment.{SegmentValue}
-use Rattle.bench_report.specs.Delays.{delays_told}
 use Rattle.bench_report.specs.Edges.{edges_told}
 
 -- `delays`: the table of the delays that the master measured
 unfoldable pub table_text : SegmentValue → BenchState → List ℕ
-table_text s b = delay_table_text s (delays_told s b.master) b.master.sent b.master.lost
+table_text s b = delay_table_text s b.master.delays b.master.sent b.master.lost
 
 -- the summary of the run, by what the master keeps and by the edges that the wire has kept; with the lines of the slaves, or without
 unfoldable pub summary_text : SegmentValue → BenchState → Bool → List ℕ
 summary_text s b slave_lines =
-    run_summary_text s (delays_told s b.master) (unwrap_or b.master.start 0) b.master.sent b.master.lost (edges_told s b.wire) slave_lines
+    run_summary_text s b.master.delays (unwrap_or b.master.start 0) b.master.sent b.master.lost (edges_told s b.wire) slave_lines
 
 -- the rows of the edges, where they are asked for
 unfoldable pub rows_text : SegmentValue → BenchState → Bool → List ℕ

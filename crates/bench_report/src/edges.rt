@@ -4,6 +4,7 @@ ghost use Rattle.std.specs.Prelude.{◌≡◌, ◌++◌, ◌<◌, IfOk, OnOk, Ok
 ghost use Rattle.edge_report.specs.Edges.{AreEdges};
 ghost use Rattle.edge_report.specs.Slaves.{slave_at};
 ghost use Rattle.segment_bench.specs.BenchRun.{HasRun};
+ghost use Rattle.segment_file.specs.Legal.{IsLegal};
 ghost use Rattle.segment_file.specs.Seen.{row_seen};
 ghost use Rattle.bench_report.specs.Edges.{edges_told, has_signal, own_edges};
 
@@ -62,6 +63,7 @@ pub(crate) fn edges(
     requires { HasRun segment.now bench.now (Ok tt) }
     ensures told { IfOk result (λ edges. edges.items ≡ edges_told segment.now bench.now.wire) }
     ensures are { AreEdges segment.now (edges_told segment.now bench.now.wire) }
+    ensures legal { IsLegal segment.now }
 {
     let slaves = segment.tree().len() as u16;
     let mut edges = Vec::new(alloc);

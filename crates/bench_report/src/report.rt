@@ -1,7 +1,11 @@
-ghost use Rattle.std.specs.Prelude.{◌≡◌, ◌++◌, IfOk, OnOk, Ok};
+ghost use Rattle.std.specs.Prelude.{◌≡◌, ◌++◌, IfOk, OnOk, None, Ok};
 ghost use Rattle.edge_report.specs.EdgeRows.{edge_rows};
 ghost use Rattle.edge_report.specs.Edges.{AreEdges};
+ghost use Rattle.edge_report.specs.Delays.{AreDelays};
+ghost use Rattle.run_of_file.specs.AtEnd.{IsAtEnd};
+ghost use Rattle.run_of_file.specs.RunOfFile.{commissioned};
 ghost use Rattle.segment_bench.specs.BenchRun.{HasRun};
+ghost use Rattle.segment_file.specs.Legal.{IsLegal};
 ghost use Rattle.bench_report.specs.Edges.{edges_told};
 ghost use Rattle.bench_report.specs.Reports.{drill_text, report_text, summary_text, table_text};
 
@@ -16,6 +20,8 @@ use std::alloc::Global;
 /// The table of delays of a bench whose master has commissioned the segment.
 #[tactic(auto, unfolding(crate::specs::Reports::table_text))]
 pub fn delay_table(alloc: Global, segment: &Segment, bench: &Bench) -> Result<Vec<u8>, NoMemory>
+    requires legal { IsLegal segment.now }
+    requires run { IsAtEnd segment.now None (commissioned segment.now) bench.now.wire bench.now.master (Ok tt) }
     ensures { IfOk result (λ text. text.items ≡ table_text segment.now bench.now) }
 {
     let Ok(delays) = delays(alloc, segment, bench) else {
@@ -34,6 +40,7 @@ fn summary(
     edges: &[SlaveEdge],
     slave_lines: bool,
 ) -> Result<Vec<u8>, NoMemory>
+    requires delays { AreDelays segment.now bench.now.master.delays }
     requires are { AreEdges segment.now edges.now }
     requires told { edges.now ≡ edges_told segment.now bench.now.wire }
     ensures { IfOk result (λ text. text.items ≡ summary_text segment.now bench.now slave_lines) }

@@ -1,6 +1,5 @@
 -- What the answer to a command says of what was written and refused.
-use Rattle.std.proofs.Common.{◌≡◌, ◌∙◌, ℕ, List, Option, Some, None, Ok, Err, ap, refl, sym, subst}
-use Rattle.std.specs.Prelude.{option_map}
+use Rattle.std.proofs.Common.{◌≡◌, ◌∙◌, ℕ, Bool, true, List, Option, Some, None, Ok, Err, ap, refl, sym, subst}
 use Rattle.std.specs.Io.KnownBytes.{Keeps}
 use Rattle.dc_bench.specs.BenchState.{BenchState}
 use Rattle.master_script.specs.declared.step.MasterError.{MasterError}
@@ -8,13 +7,18 @@ use Rattle.master_script.specs.Script.{Answer}
 use Rattle.master_script.specs.declared.step.MasterError.TheVariants.{Refused}
 use Rattle.master_script.specs.declared.step.Refusal.TheVariants.{Lost as LostStep}
 use Rattle.master_script.specs.declared.step.Step.{Step}
-use Rattle.run_of_file.specs.RunOfFile.{RunEnd, ran, rounded_off, run_of}
-use Rattle.honest_runs.proofs.Runs.{commissioned_honest, ran_honest}
+use Rattle.lost_step.specs.LostStep.{lost_step_of}
+use Rattle.run_answers.proofs.Lossless.{lossless}
+use Rattle.run_answers.proofs.Premise.{honest_replies}
+use Rattle.run_answers.proofs.Whole.{whole_answers}
+use Rattle.run_schedule.specs.Answers.{answer_for}
+use Rattle.run_schedule.proofs.Joined.{commissioned_answers}
 use Rattle.segment_file.specs.Legal.{IsLegal}
+use Rattle.segment_draw.specs.Generated.{generated}
 use Rattle.segment_file.specs.Segment.{SegmentValue}
 use Rattle.segment_file.specs.Told.{IsSegmentText}
-use Rattle.dc_top.specs.Answers.{RefusesDriven, RefusesRun, Served}
-use Rattle.dc_top.specs.Runs.{HasMade, IsLost, IsReport}
+use Rattle.dc_top.specs.Answers.{NeverRefuses, RefusesDriven, RefusesRun, Served}
+use Rattle.dc_top.specs.Runs.{HasMade, IsLost, IsReport, goes_on}
 use Rattle.dc_top.specs.Written.{Wrote}
 use Rattle.dc_top.specs.declared.outcome.Outcome.{Outcome}
 use Rattle.dc_top.specs.declared.outcome.Outcome.TheVariants.{Done, Usage, BadText, BadSegment, BadFrame, Lost, ReadFault, WriteFault, NoMemory, TooLong, NotYet}
@@ -41,40 +45,50 @@ pub keeps_all : (taken : Option (List ℕ)) → Keeps taken taken
 keeps_all None = tt
 keeps_all (Some bytes) = refl
 
--- the answer where a step of the run of a segment was lost
-pub told_lost : (r : Report) (s : SegmentValue) (b : BenchState) (e : MasterError) (step : Step) (taken : Option (List ℕ)) → HasMade r s b (Err e) → e ≡ Refused (LostStep step)
-    → Served (IsReport r (λ t. t ≡ s)) (RefusesRun r (λ t. t ≡ s)) (Lost step) taken taken (Some b)
-told_lost r s b e step taken run is = (record { segment = s; is = refl; run = subst (λ (x : MasterError). HasMade r s b (Err x)) is run }, keeps_all taken)
+abbrev ok_answer : Answer
+ok_answer = Ok tt
 
--- no other error comes in the run of a legal segment
-rounded_answer : (s : SegmentValue) (r : RunEnd) (answer : Answer) → (rounded_off s r answer).answer ≡ r.answer
-rounded_answer s r (Ok tt) = refl
-rounded_answer s r (Err e) = refl
+abbrev err_answer : MasterError → Answer
+err_answer e = Err e
 
-lost_of : (s : SegmentValue) (o : Option RunEnd) (end : RunEnd) (e : MasterError) → ((r : RunEnd) → o ≡ Some r → r.answer ≡ Err e → (step : Step) × (e ≡ Refused (LostStep step)))
-    → option_map (λ r. rounded_off s r r.answer) o ≡ Some end → end.answer ≡ Err e → (step : Step) × (e ≡ Refused (LostStep step))
-lost_of s None end e each is answer = absurd (let x = is in cc)
-lost_of s (Some r) end e each is answer =
-    let same : rounded_off s r r.answer ≡ end = cc in
-    each r refl (sym (rounded_answer s r r.answer) ∙ ap (λ (x : RunEnd). x.answer) same ∙ answer)
+-- how the run of a legal segment ends is told by the list of losses
+answer_of : (r : Report) (s : SegmentValue) (b : BenchState) (answer : Answer) → IsLegal s → HasMade r s b answer → answer ≡ answer_for (lost_step_of s (goes_on r))
+answer_of Delays s b answer legal run = sym run.answer_is ∙ commissioned_answers s legal (honest_replies s legal) run.end run.run_is
+answer_of (Run edges) s b (Ok tt) legal run = sym run.0.answer_is ∙ whole_answers s run.0.end legal run.0.run_is
+answer_of (Run edges) s b (Err e) legal run = sym run.1.answer_is ∙ whole_answers s run.1.end legal run.1.run_is
+answer_of Drill s b (Ok tt) legal run = sym run.0.answer_is ∙ whole_answers s run.0.end legal run.0.run_is
+answer_of Drill s b (Err e) legal run = sym run.1.answer_is ∙ whole_answers s run.1.end legal run.1.run_is
 
-whole_lost : (s : SegmentValue) → IsLegal s → (end : RunEnd) (e : MasterError) → run_of s ≡ Some end → end.answer ≡ Err e → (step : Step) × (e ≡ Refused (LostStep step))
-unfolding run_of
-whole_lost s legal end e is answer = lost_of s (ran s) end e (λ r there. (ran_honest s legal r there).loss e) is answer
+none_by : (o : Option Step) → ok_answer ≡ answer_for o → o ≡ None
+none_by None e = refl
+none_by (Some step) e = absurd (let x = e in cc)
+
+some_by : (o : Option Step) (e : MasterError) → err_answer e ≡ answer_for o → (step : Step) × ((o ≡ Some step) × (e ≡ Refused (LostStep step)))
+some_by None e h = absurd (let x = h in cc)
+some_by (Some step) e h = let same : e ≡ Refused (LostStep step) = cc in (step, (refl, same))
+
+pub none_lost : (r : Report) (s : SegmentValue) (b : BenchState) → IsLegal s → HasMade r s b (Ok tt) → lost_step_of s (goes_on r) ≡ None
+none_lost r s b legal run = none_by (lost_step_of s (goes_on r)) (answer_of r s b (Ok tt) legal run)
 
 pub only_lost : (r : Report) (s : SegmentValue) (b : BenchState) (e : MasterError) → IsLegal s → HasMade r s b (Err e) → (step : Step) × (e ≡ Refused (LostStep step))
-only_lost Delays s b e legal run = (commissioned_honest s legal run.end run.run_is).loss e run.answer_is
-only_lost (Run edges) s b e legal run = whole_lost s legal run.1.end e run.1.run_is run.1.answer_is
-only_lost Drill s b e legal run = whole_lost s legal run.1.end e run.1.run_is run.1.answer_is
+only_lost r s b e legal run = let x = some_by (lost_step_of s (goes_on r)) e (answer_of r s b (Err e) legal run) in (x.0, x.1.1)
+
+-- the answer where a step of the run of a segment was lost
+pub told_lost : (r : Report) (s : SegmentValue) (b : BenchState) (e : MasterError) (step : Step) (taken : Option (List ℕ)) → IsLegal s → HasMade r s b (Err e)
+    → e ≡ Refused (LostStep step) → Served (IsReport r (λ t. t ≡ s)) (RefusesRun r (λ t. t ≡ s)) (Lost step) taken taken (Some b)
+told_lost r s b e step taken legal run is =
+    let x = some_by (lost_step_of s (goes_on r)) e (answer_of r s b (Err e) legal run) in
+    let same : x.0 ≡ step = let both = sym x.1.1 ∙ is in cc in
+    (record { segment = s; is = refl; run = subst (λ (z : MasterError). HasMade r s b (Err z)) is run; losses = x.1.0 ∙ ap (λ (y : Step). Some y) same }, keeps_all taken)
 
 -- what holds of the very segment holds of any that it is
 report_for : (r : Report) (s : SegmentValue) (IsIt : SegmentValue → Type 0) → IsIt s → (text : List ℕ) (bench : Option BenchState) → IsReport r (λ t. t ≡ s) text bench → IsReport r IsIt text bench
 report_for r s IsIt is text None h = absurd h
-report_for r s IsIt is text (Some b) h = record { segment = h.segment; is = subst IsIt (sym h.is) is; run = h.run; written = h.written }
+report_for r s IsIt is text (Some b) h = record { segment = h.segment; is = subst IsIt (sym h.is) is; run = h.run; losses = h.losses; written = h.written }
 
 lost_for : (r : Report) (s : SegmentValue) (IsIt : SegmentValue → Type 0) → IsIt s → (step : Step) (bench : Option BenchState) → IsLost r (λ t. t ≡ s) step bench → IsLost r IsIt step bench
 lost_for r s IsIt is step None h = absurd h
-lost_for r s IsIt is step (Some b) h = record { segment = h.segment; is = subst IsIt (sym h.is) is; run = h.run }
+lost_for r s IsIt is step (Some b) h = record { segment = h.segment; is = subst IsIt (sym h.is) is; run = h.run; losses = h.losses }
 
 pub served_for : (r : Report) (s : SegmentValue) (IsIt : SegmentValue → Type 0) → IsIt s → (o : Outcome) (taken taken' : Option (List ℕ)) (bench : Option BenchState)
     → Served (IsReport r (λ t. t ≡ s)) (RefusesRun r (λ t. t ≡ s)) o taken taken' bench → Served (IsReport r IsIt) (RefusesRun r IsIt) o taken taken' bench
@@ -108,3 +122,27 @@ of_file r bytes TooLong taken taken' bench h = absurd h
 pub served_file : (r : Report) (s : SegmentValue) (bytes : List ℕ) → IsSegmentText bytes s → (o : Outcome) (taken taken' : Option (List ℕ)) (bench : Option BenchState)
     → Served (IsReport r (λ t. t ≡ s)) (RefusesRun r (λ t. t ≡ s)) o taken taken' bench → Served (IsReport r (IsSegmentText bytes)) (RefusesDriven r bytes) o taken taken' bench
 served_file r s bytes legal o taken taken' bench h = of_file r bytes o taken taken' bench (served_for r s (IsSegmentText bytes) legal o taken taken' bench h)
+
+-- a segment that is drawn loses no step
+none_of_drawn : (n seed : ℕ) (s : SegmentValue) → s ≡ generated n seed → (step : Step) → lost_step_of s true ≡ Some step → ⊥
+none_of_drawn n seed s is step lost =
+    let none : lost_step_of s true ≡ None = lossless s true (ap (λ (t : SegmentValue). t.losses) is) in
+    let both = sym lost ∙ none in cc
+
+never_lost : (n seed : ℕ) (s : SegmentValue) → s ≡ generated n seed → (step : Step) (bench : Option BenchState) → IsLost Drill (λ t. t ≡ s) step bench → ⊥
+never_lost n seed s is step None h = absurd h
+never_lost n seed s is step (Some b) h = none_of_drawn n seed h.segment (h.is ∙ is) step h.losses
+
+pub served_drill : (n seed : ℕ) (s : SegmentValue) → s ≡ generated n seed → (o : Outcome) (taken taken' : Option (List ℕ)) (bench : Option BenchState)
+    → Served (IsReport Drill (λ t. t ≡ s)) (RefusesRun Drill (λ t. t ≡ s)) o taken taken' bench → Served (IsReport Drill (λ t. t ≡ generated n seed)) NeverRefuses o taken taken' bench
+served_drill n seed s is Done taken taken' bench h = (h.0, (report_for Drill s (λ t. t ≡ generated n seed) is h.0 bench h.1.0, h.1.1))
+served_drill n seed s is WriteFault taken taken' bench h = (h.0, (report_for Drill s (λ t. t ≡ generated n seed) is h.0 bench h.1.0, h.1.1))
+served_drill n seed s is NoMemory taken taken' bench h = h
+served_drill n seed s is (Lost step) taken taken' bench h = absurd (never_lost n seed s is step bench h.0)
+served_drill n seed s is NotYet taken taken' bench h = absurd h.0
+served_drill n seed s is Usage taken taken' bench h = absurd h
+served_drill n seed s is BadText taken taken' bench h = absurd h.0
+served_drill n seed s is (BadSegment fault) taken taken' bench h = absurd h.0
+served_drill n seed s is (BadFrame line fault) taken taken' bench h = absurd h.0
+served_drill n seed s is ReadFault taken taken' bench h = absurd h
+served_drill n seed s is TooLong taken taken' bench h = absurd h

@@ -58,6 +58,10 @@ abbrev pub RefusesRun : Report → (SegmentValue → Type 0) → Outcome → Opt
 RefusesRun r IsIt (Lost step) bench = IsLost r IsIt step bench
 RefusesRun r IsIt o bench = ⊥
 
+-- a segment that is drawn loses no frame, so its run is whole
+abbrev pub NeverRefuses : Outcome → Option BenchState → Type 0
+NeverRefuses o bench = ⊥
+
 -- a file that is driven is refused, or its run is not whole
 abbrev pub RefusesDriven : Report → List ℕ → Outcome → Option BenchState → Type 0
 RefusesDriven r bytes (Lost step) bench = RefusesRun r (IsSegmentText bytes) (Lost step) bench
@@ -74,7 +78,7 @@ RefusesBy (Run edges) bytes o bench = RefusesDriven (report.Run edges) bytes o b
 RefusesBy Delays bytes o bench = RefusesDriven report.Delays bytes o bench
 RefusesBy Check bytes o bench = RefusesFile bytes o bench
 RefusesBy Show bytes o bench = RefusesLines bytes o bench
-RefusesBy (Drill slaves seed) bytes o bench = RefusesRun report.Drill (λ s. s ≡ generated slaves seed) o bench
+RefusesBy (Drill slaves seed) bytes o bench = NeverRefuses o bench
 RefusesBy Migrate bytes o bench = RefusesFile bytes o bench
 RefusesBy command bytes o bench = ⊥
 

@@ -1,6 +1,7 @@
 -- The commands that drive a master over a wire: how far the run of a segment goes, and what is written of it.
-use Rattle.std.specs.Prelude.{◌≡◌, ℕ, List, Option, Some, None, Ok, Err}
+use Rattle.std.specs.Prelude.{◌≡◌, ℕ, Bool, true, false, List, Option, Some, None, Ok, Err}
 use Rattle.dc_bench.specs.BenchState.{BenchState}
+use Rattle.lost_step.specs.LostStep.{lost_step_of}
 use Rattle.master_script.specs.Script.{Answer}
 use Rattle.master_script.specs.declared.step.MasterError.TheVariants.{Refused}
 use Rattle.master_script.specs.declared.step.Refusal.TheVariants.{Lost}
@@ -19,28 +20,36 @@ HasMade Delays s b answer = IsAtEnd s None (commissioned s) b.wire b.master answ
 HasMade (Run edges) s b answer = HasRun s b answer
 HasMade Drill s b answer = HasRun s b answer
 
+-- whether arming is reached
+abbrev pub goes_on : Report → Bool
+goes_on Delays = false
+goes_on (Run edges) = true
+goes_on Drill = true
+
 -- what is written of it
 abbrev pub text_of : Report → SegmentValue → BenchState → List ℕ
 text_of Delays s b = table_text s b
 text_of (Run edges) s b = report_text s b edges
 text_of Drill s b = drill_text s b
 
--- a bench has made the run of such a segment, and the text is what is written of it
+-- a bench has made the run of such a segment, of which no step loses its three tries, and the text is what is written of it
 pub record IsReportOf (report : Report) (IsIt : SegmentValue → Type 0) (text : List ℕ) (bench : BenchState) : Type 0 where
   pub segment : SegmentValue
   pub is : IsIt segment
   pub run : HasMade report segment bench (Ok tt)
+  pub losses : lost_step_of segment (goes_on report) ≡ None
   pub written : text ≡ text_of report segment bench
 
 abbrev pub IsReport : Report → (SegmentValue → Type 0) → List ℕ → Option BenchState → Type 0
 IsReport report IsIt text None = ⊥
 IsReport report IsIt text (Some b) = IsReportOf report IsIt text b
 
--- no try of this step of the run of such a segment came back
+-- this is the first step of the run of such a segment whose three tries are listed as lost, and its run ended there
 pub record IsLostBy (report : Report) (IsIt : SegmentValue → Type 0) (step : Step) (bench : BenchState) : Type 0 where
   pub segment : SegmentValue
   pub is : IsIt segment
   pub run : HasMade report segment bench (Err (Refused (Lost step)))
+  pub losses : lost_step_of segment (goes_on report) ≡ Some step
 
 abbrev pub IsLost : Report → (SegmentValue → Type 0) → Step → Option BenchState → Type 0
 IsLost report IsIt step None = ⊥

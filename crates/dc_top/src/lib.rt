@@ -3,7 +3,7 @@
 //!
 //! [`dc_main`] works over any source and any sink, so all of it can be tested and proved without a file or a terminal. What goes in is
 //! bytes and what comes out is bytes and an [`Outcome`], whose status and line on standard error `dc_cli` hands on. What the run of a
-//! file is, is said in `run_of_file`, and what is written of it in `edge_report`.
+//! file is, is said in `run_of_file`, and what is written of it in `bench_report`.
 #![tactic(auto)]
 
 mod check;
@@ -18,6 +18,7 @@ mod step_text;
 mod top;
 mod write;
 
+pub use lost_step::lost_step;
 pub use outcome::Outcome;
 pub use seg_fault::SegFault;
 pub use segment_file::{Id, KeyPath, ShapeTree};

@@ -8,8 +8,9 @@ ghost use Rattle.master_script.specs.declared.step.Stage.{Stage};
 ghost use Rattle.master_script.specs.declared.step.Step.{Step as LostStep};
 ghost use Rattle.segment_bench.specs.NewBench.{IsNew};
 ghost use Rattle.segment_draw.specs.Generated.{generated};
+ghost use Rattle.segment_file.specs.Legal.{IsLegal};
 ghost use Rattle.segment_file.specs.Told.{IsSegmentText};
-ghost use Rattle.dc_top.specs.Answers.{RefusesDriven, RefusesRun, Served};
+ghost use Rattle.dc_top.specs.Answers.{NeverRefuses, RefusesDriven, RefusesRun, Served};
 ghost use Rattle.dc_top.specs.Runs.{HasMade, IsReport, text_of};
 ghost use Rattle.dc_top.specs.Written.{Wrote};
 ghost use Rattle.dc_top.specs.declared.outcome.Outcome.TheVariants.{WriteFault};
@@ -56,7 +57,7 @@ pub(crate) fn drill<O: Sink>(
     bench: &mut Option<Bench>,
 ) -> Outcome
     requires { (1 ≤ slaves) × (slaves ≤ 256) }
-    ensures served { Served (IsReport report.Drill (λ s. s ≡ generated slaves seed)) (RefusesRun report.Drill (λ s. s ≡ generated slaves seed)) result
+    ensures served { Served (IsReport report.Drill (λ s. s ≡ generated slaves seed)) NeverRefuses result
         (O.taken output.old) (O.taken output.new) bench.new }
     ensures fault { result ≡ WriteFault → Rose (O.faults output.old) (O.faults output.new) }
 {
@@ -103,7 +104,7 @@ fn drive_bench<O: Sink>(
 {
     match make_run(segment, report, bench) {
         Ok(()) => write_report(alloc, segment, report, bench, output),
-        Err(error) => Outcome::Lost(lost_step(error)),
+        Err(error) => Outcome::Lost(step_of(error)),
     }
 }
 
@@ -128,7 +129,8 @@ fn write_report<O: Sink>(
     bench: &Bench,
     output: &mut O,
 ) -> Outcome
-    requires { HasMade report segment.now bench.now (Ok tt) }
+    requires legal { IsLegal segment.now }
+    requires made { HasMade report segment.now bench.now (Ok tt) }
     ensures written { Wrote (text_of report segment.now bench.now) result (O.taken output.old) (O.taken output.new) }
     ensures fault { result ≡ WriteFault → Rose (O.faults output.old) (O.faults output.new) }
 {
@@ -145,7 +147,8 @@ fn text_of(
     report: Report,
     bench: &Bench,
 ) -> Result<Vec<u8>, NoMemory>
-    requires { HasMade report segment.now bench.now (Ok tt) }
+    requires legal { IsLegal segment.now }
+    requires made { HasMade report segment.now bench.now (Ok tt) }
     ensures { IfOk result (λ text. text.items ≡ text_of report segment.now bench.now) }
 {
     match report {
@@ -156,7 +159,7 @@ fn text_of(
 }
 
 // The step that was lost: over the wire of a legal segment a run ends with no other error.
-fn lost_step(error: MasterError) -> Step
+fn step_of(error: MasterError) -> Step
     requires { (step : LostStep) × (error ≡ Refused (Lost step)) }
     ensures { error ≡ Refused (Lost result) }
 {

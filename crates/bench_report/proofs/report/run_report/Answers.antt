@@ -1,8 +1,12 @@
 use Rattle.std.proofs.Common.{◌++◌, ap, ◌∙◌}
 use Rattle.edge_report.specs.EdgeRows.{edge_rows}
+use Rattle.bench_report.proofs.Measured.{run_delays}
 use Rattle.bench_report.proofs.Pieces.{with_rows, without_rows}
 use Rattle.bench_report.proofs.report.run_report.Goals.{then-with_rows+in_ok-push_rows, else-with_rows}
 use Rattle.bench_report.proofs.report.run_report.Goals as goal
+
+pub summary-requires-clause-delays : goal.summary-requires-clause-delays
+summary-requires-clause-delays c = run_delays c.args.segment.now c.args.bench.now c.edges.ensures.legal c.requires
 
 pub returns : goal.returns
 returns c =

@@ -1,0 +1,12 @@
+use Rattle.std.proofs.Common.{◌∙◌, subst, sym}
+use Rattle.edge_report.specs.Delays.{AreDelays}
+use Rattle.bench_report.proofs.Measured.{commissioned_delays}
+use Rattle.bench_report.proofs.report.delay_table.Goals as goal
+
+pub delays-requires : goal.delays-requires
+delays-requires c = commissioned_delays c.args.segment.now c.args.bench.now c.requires.legal c.requires.run
+
+pub delay_table-requires : goal.delay_table-requires
+delay_table-requires c =
+    let are = commissioned_delays c.args.segment.now c.args.bench.now c.requires.legal c.requires.run in
+    subst (AreDelays c.args.segment.now) (sym (c.deref.ensures.value ∙ c.in-Ok.ensures)) are

@@ -1,0 +1,5 @@
+use Rattle.bench_report.proofs.Measured.{run_delays}
+use Rattle.bench_report.proofs.report.drill_report.Goals as goal
+
+pub summary-requires-clause-delays : goal.summary-requires-clause-delays
+summary-requires-clause-delays c = run_delays c.args.segment.now c.args.bench.now c.edges.ensures.legal c.requires

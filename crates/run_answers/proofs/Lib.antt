@@ -1,0 +1,4 @@
+pub mod Premise
+pub mod Whole
+pub mod Staying
+pub mod Lossless
