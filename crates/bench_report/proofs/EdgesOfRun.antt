@@ -1,25 +1,23 @@
 -- The edges that are told of a bench are the edges of a run.
-use Rattle.std.proofs.Common.{◌≡◌, ℕ, zero, suc, ◌+◌, ◌<◌, ◌≤◌, Bool, true, false, ◌&&◌, nat_eq, List, [], ◌∷◌, ◌++◌, length, map, refl, sym, ap, subst, ◌∙◌, arith}
-use Rattle.std.specs.Prelude.{slice_index_or}
-use Rattle.std.specs.List.{All, filter, flat_map, range_with_len}
+use Rattle.std.proofs.Common.{◌≡◌, ℕ, zero, suc, ◌<◌, ◌≤◌, Bool, true, false, nat_eq, List, [], ◌++◌, length, map, refl, sym, ap, subst, ◌∙◌, arith}
+use Rattle.std.specs.List.{All, flat_map, range_with_len}
 use Rattle.std.proofs.lemmas.Bool.Decides.{nat_tests}
 use Rattle.std.proofs.lemmas.List.{append-nil, length-map}
 use Rattle.std.proofs.lemmas.List.Elements.{All-append, All-nil, All-weaker, filter-append}
 use Rattle.std.proofs.lemmas.List.FromFn.{length-range_with_len}
-use Rattle.edge_report.specs.Edges.{AreCounted, AreEdges, IsEdge, edges_of, is_of, rank}
-use Rattle.edge_report.specs.Slaves.{slave_at}
+use Rattle.armed_signals.specs.OwnSignals.{AllKeepTo, signals_at}
+use Rattle.edge_report.specs.Edges.{AreCounted, AreEdges, IsEdge, edges_of, is_of}
 use Rattle.edge_report.specs.declared.slave_edge.SlaveEdge.{SlaveEdge}
 use Rattle.edge_report.proofs.Sorting.{keeps_none}
 use Rattle.frame_pass.specs.SegmentState.{SegmentState}
 use Rattle.segment_bench.specs.BenchRun.{IsWireOf}
-use Rattle.segment_file.specs.Legal.{IsLegal}
 use Rattle.segment_file.specs.Segment.{SegmentValue}
 use Rattle.sync_units.specs.declared.edge.Edge.{Edge}
 use Rattle.sync_units.specs.declared.edge.Signal.{Signal}
-use Rattle.bench_report.specs.Edges.{edges_told, has_signal, kept_at, own_edges}
+use Rattle.bench_report.specs.Edges.{edges_told, kept_at, own_edges}
 use Rattle.bench_report.proofs.KeptEdges.{AreFew, few_kept}
 use Rattle.bench_report.proofs.Lists.{flat_more, sorted_behind}
-use Rattle.bench_report.proofs.Own.{own_at, own_each, own_indices, own_none}
+use Rattle.bench_report.proofs.Own.{kept_own, own_at, own_each, own_indices}
 
 -- the edges of the positions below one
 record AreBelow (s : SegmentValue) (n : ℕ) (xs : List SlaveEdge) : Type 0 where
@@ -27,17 +25,13 @@ record AreBelow (s : SegmentValue) (n : ℕ) (xs : List SlaveEdge) : Type 0 wher
   before : All (λ x. x.position < n) xs
 
 -- the edges of a position are counted
-piece_counted : (s : SegmentValue) (p : ℕ) (signal : Signal) (es : List Edge) → AreFew s.head.cycles es → AreCounted s.head.cycles (edges_of p signal (own_edges s p es))
-piece_counted s p signal es few = by (has_signal (slave_at s p) signal) refl
-  where
-    by : (b : Bool) → has_signal (slave_at s p) signal ≡ b → AreCounted s.head.cycles (edges_of p signal (own_edges s p es))
-    by true own =
-        let xs = edges_of p signal (own_edges s p es) in
-        let is : map (λ (x : SlaveEdge). x.edge.index) xs ≡ range_with_len 0 (few.many signal) = own_indices s p signal own es ∙ few.indices signal in
-        let many : length xs ≡ few.many signal = sym (length-map xs (λ (x : SlaveEdge). x.edge.index)) ∙ ap length is ∙ length-range_with_len 0 (few.many signal) in
-        let most = few.few signal in
-        record { indices = is ∙ ap (range_with_len 0) (sym many); most = omega (arith, many, most) }
-    by false none = subst (AreCounted s.head.cycles) (sym (own_none s p signal none es)) (record { indices = refl; most = omega arith })
+piece_counted : (cycles p : ℕ) (signal : Signal) (es : List Edge) → AreFew cycles es → AreCounted cycles (edges_of p signal (own_edges p es))
+piece_counted cycles p signal es few =
+    let xs = edges_of p signal (own_edges p es) in
+    let is : map (λ (x : SlaveEdge). x.edge.index) xs ≡ range_with_len 0 (few.many signal) = own_indices p signal es ∙ few.indices signal in
+    let many : length xs ≡ few.many signal = sym (length-map xs (λ (x : SlaveEdge). x.edge.index)) ∙ ap length is ∙ length-range_with_len 0 (few.many signal) in
+    let most = few.few signal in
+    record { indices = is ∙ ap (range_with_len 0) (sym many); most = omega (arith, many, most) }
 
 apart : (p : ℕ) (signal : Signal) (x : SlaveEdge) → nat_eq x.position p ≡ false → is_of p signal x ≡ false
 apart p signal x h = rw h refl
@@ -77,14 +71,14 @@ none_yet s = record {
   before = All-nil (λ (x : SlaveEdge). x.position < 0);
 }
 
-below : (s : SegmentValue) (w : SegmentState) → IsWireOf s w → (n : ℕ) → n ≤ length s.rows
-    → AreBelow s n (flat_map (λ p. own_edges s p (kept_at w p)) (range_with_len 0 n))
-below s w is zero low = none_yet s
-below s w is (suc n) low =
-    subst (AreBelow s (suc n)) (sym (flat_more (λ p. own_edges s p (kept_at w p)) n))
-    (piece_behind s n (flat_map (λ p. own_edges s p (kept_at w p)) (range_with_len 0 n)) (own_edges s n (kept_at w n)) (below s w is n (omega (arith, low)))
-    (own_each s n (omega (arith, low)) (kept_at w n)) (own_at s n (kept_at w n)) (λ signal. piece_counted s n signal (kept_at w n) (few_kept s w is n)))
+below : (s : SegmentValue) (w : SegmentState) → IsWireOf s w → AllKeepTo (signals_at s) w.slaves → (n : ℕ) → n ≤ length s.rows
+    → AreBelow s n (flat_map (λ p. own_edges p (kept_at w p)) (range_with_len 0 n))
+below s w is own zero low = none_yet s
+below s w is own (suc n) low =
+    subst (AreBelow s (suc n)) (sym (flat_more (λ p. own_edges p (kept_at w p)) n))
+    (piece_behind s n (flat_map (λ p. own_edges p (kept_at w p)) (range_with_len 0 n)) (own_edges n (kept_at w n)) (below s w is own n (omega (arith, low)))
+    (own_each s n (omega (arith, low)) (kept_at w n) (kept_own s w own n)) (own_at n (kept_at w n)) (λ signal. piece_counted s.head.cycles n signal (kept_at w n) (few_kept s w is n)))
 
-pub are_edges : (s : SegmentValue) (w : SegmentState) → IsWireOf s w → AreEdges s (edges_told s w)
+pub are_edges : (s : SegmentValue) (w : SegmentState) → IsWireOf s w → AllKeepTo (signals_at s) w.slaves → AreEdges s (edges_told s w)
 unfolding edges_told
-are_edges s w is = (below s w is (length s.rows) (omega arith)).are
+are_edges s w is own = (below s w is own (length s.rows) (omega arith)).are

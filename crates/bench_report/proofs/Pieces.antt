@@ -22,18 +22,18 @@ kept_by (s ∷ ss) zero es low h = h
 kept_by (s ∷ ss) (suc p) es low h = kept_by ss p es (omega (arith, low)) h
 
 -- those of one more slave
-pub slave_more : (s : SegmentValue) (w v : SegmentState) (p : ℕ) (es : List Edge) (before after : List SlaveEdge) → v ≡ w → p < length v.slaves
-    → IfSome (slice_get v.slaves p) (λ x. es ≡ edges_kept x) → before ≡ flat_map (λ q. own_edges s q (kept_at w q)) (range_with_len 0 p) → after ≡ before ++ own_edges s p es
-    → after ≡ flat_map (λ q. own_edges s q (kept_at w q)) (range_with_len 0 (p + 1))
-slave_more s w v p es before after same low kept inv push =
-    let f : ℕ → List SlaveEdge = λ q. own_edges s q (kept_at w q) in
+pub slave_more : (w v : SegmentState) (p : ℕ) (es : List Edge) (before after : List SlaveEdge) → v ≡ w → p < length v.slaves
+    → IfSome (slice_get v.slaves p) (λ x. es ≡ edges_kept x) → before ≡ flat_map (λ q. own_edges q (kept_at w q)) (range_with_len 0 p) → after ≡ before ++ own_edges p es
+    → after ≡ flat_map (λ q. own_edges q (kept_at w q)) (range_with_len 0 (p + 1))
+slave_more w v p es before after same low kept inv push =
+    let f : ℕ → List SlaveEdge = λ q. own_edges q (kept_at w q) in
     let up : p + 1 ≡ suc p = omega arith in
     let all : es ≡ kept_at w p = kept_by v.slaves p es low kept ∙ ap (λ u. kept_at u p) same in
-    push ∙ ap (λ xs. xs ++ own_edges s p es) inv ∙ ap (λ es. flat_map f (range_with_len 0 p) ++ own_edges s p es) all ∙ sym (flat_more f p) ∙ ap (λ k. flat_map f (range_with_len 0 k)) (sym up)
+    push ∙ ap (λ xs. xs ++ own_edges p es) inv ∙ ap (λ es. flat_map f (range_with_len 0 p) ++ own_edges p es) all ∙ sym (flat_more f p) ∙ ap (λ k. flat_map f (range_with_len 0 k)) (sym up)
 
-pub all_told : (s : SegmentValue) (w : SegmentState) (n : ℕ) → n ≡ length s.rows → flat_map (λ q. own_edges s q (kept_at w q)) (range_with_len 0 n) ≡ edges_told s w
+pub all_told : (s : SegmentValue) (w : SegmentState) (n : ℕ) → n ≡ length s.rows → flat_map (λ q. own_edges q (kept_at w q)) (range_with_len 0 n) ≡ edges_told s w
 unfolding edges_told
-all_told s w n is = ap (λ k. flat_map (λ q. own_edges s q (kept_at w q)) (range_with_len 0 k)) is
+all_told s w n is = ap (λ k. flat_map (λ q. own_edges q (kept_at w q)) (range_with_len 0 k)) is
 
 -- the rows stand behind the summary where they are asked for
 pub with_rows : (s : SegmentValue) (b : BenchState) (asked : Bool) (edges : List SlaveEdge) (text after : List ℕ) → asked ≡ true → edges ≡ edges_told s b.wire

@@ -3,7 +3,6 @@ use Rattle.std.specs.Prelude.{ℕ, Bool, true, false, List, [], ◌++◌, unwrap
 use Rattle.dc_bench.specs.BenchState.{BenchState}
 use Rattle.edge_report.specs.EdgeRows.{edge_rows}
 use Rattle.edge_report.specs.Reports.{delay_table_text, run_summary_text}
-use Rattle.edge_report.specs.declared.slave_edge.SlaveEdge.{SlaveEdge}
 use Rattle.segment_file.specs.Segment.{SegmentValue}
 use Rattle.bench_report.specs.Edges.{edges_told}
 

@@ -3,6 +3,7 @@ use Rattle.edge_report.proofs.Places.{slaves_many as rows_many}
 use Rattle.segment_bench.proofs.Wires.{run_keeps}
 use Rattle.bench_report.proofs.EdgesOfRun.{are_edges}
 use Rattle.bench_report.proofs.KeptEdges.{slaves_many}
+use Rattle.bench_report.proofs.Own.{run_own}
 use Rattle.bench_report.proofs.Pieces.{all_told, slave_more}
 use Rattle.bench_report.proofs.edges.edges.Goals as goal
 
@@ -18,7 +19,7 @@ edges-requires c =
 pub returns-in_err-push_own-clause-are : goal.returns-in_err-push_own-clause-are
 returns-in_err-push_own-clause-are c =
     let s = c.args.segment.now in
-    are_edges s c.args.bench.now.wire (run_keeps s c.args.bench.now c.tree.ensures.legal c.requires)
+    are_edges s c.args.bench.now.wire (run_keeps s c.args.bench.now c.tree.ensures.legal c.requires) (run_own s c.args.bench.now c.tree.ensures.legal c.requires)
 
 pub loop-position-preserved : goal.loop-position-preserved
 loop-position-preserved c =
@@ -27,7 +28,7 @@ loop-position-preserved c =
     let n = rows_many s c.tree.result.now c.tree.ensures.is in
     let many = slaves_many s w c.tree.ensures.legal (run_keeps s c.args.bench.now c.tree.ensures.legal c.requires) in
     let low : c.loop-position.position < length w.slaves = omega (arith, n, many, c.len-slaves.ensures.is, c.loop-position-test.true) in
-    slave_more s w c.wire.result.now c.loop-position.position c.edges.result.now c.loop-position.edges.items c.push_own.new.list.items c.wire.ensures (rw c.wire.ensures low) c.edges.ensures
+    slave_more w c.wire.result.now c.loop-position.position c.edges.result.now c.loop-position.edges.items c.push_own.new.list.items c.wire.ensures (rw c.wire.ensures low) c.edges.ensures
     c.loop-position.invariant c.in_ok-push_own.ensures
 
 pub returns-clause-told : goal.returns-clause-told
@@ -40,4 +41,4 @@ returns-clause-told c =
 pub returns-clause-are : goal.returns-clause-are
 returns-clause-are c =
     let s = c.args.segment.now in
-    are_edges s c.args.bench.now.wire (run_keeps s c.args.bench.now c.tree.ensures.legal c.requires)
+    are_edges s c.args.bench.now.wire (run_keeps s c.args.bench.now c.tree.ensures.legal c.requires) (run_own s c.args.bench.now c.tree.ensures.legal c.requires)

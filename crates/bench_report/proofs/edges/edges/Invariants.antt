@@ -4,4 +4,4 @@ use Rattle.bench_report.specs.Edges.{kept_at, own_edges}
 use Rattle.bench_report.proofs.edges.edges.Given as goal
 
 abbrev pub invariant-loop-position : goal.invariant-loop-position
-invariant-loop-position l = l.edges.items ≡ flat_map (λ p. own_edges l.segment p (kept_at l.bench.wire p)) (range_with_len 0 l.position)
+invariant-loop-position l = l.edges.items ≡ flat_map (λ p. own_edges p (kept_at l.bench.wire p)) (range_with_len 0 l.position)

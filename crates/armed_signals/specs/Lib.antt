@@ -1,0 +1,2 @@
+pub mod OwnSignals
+pub mod Planned
