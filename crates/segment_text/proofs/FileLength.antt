@@ -1,5 +1,5 @@
 -- How long the text of a file can be: of its changes of periods, its slaves, its losses and the whole.
-use Rattle.std.specs.Prelude.{◌≡◌, ℕ, ◌+◌, ◌^◌, ◌<◌, ◌≤◌, true, List, length, Option, Some, None, IfSome, codes}
+use Rattle.std.specs.Prelude.{◌≡◌, ℕ, ◌^◌, ◌<◌, ◌≤◌, true, List, length, Option, IfSome, codes}
 use Rattle.std.proofs.Common.{arith, refl, get_or}
 use Rattle.std.specs.List.{All}
 use Rattle.std.proofs.lemmas.Option.{IfSome_then}
@@ -9,7 +9,7 @@ use Rattle.esc_regs.specs.declared.clock_kind.ClockKind.TheVariants as kind
 use Rattle.osc_clock.specs.Ticks.{Rate}
 use Rattle.serde_json.specs.Data.{array, string}
 use Rattle.serde_json.specs.Written.{compact_text}
-use Rattle.segment_shape.specs.Ranges.{IsHead, IsRate, IsParent, IsSlave, IsLoss, IsFile}
+use Rattle.segment_shape.specs.Ranges.{IsRate, IsParent, IsSlave, IsLoss, IsFile}
 use Rattle.segment_shape.specs.ShapeOf.{ShapeValue}
 use Rattle.segment_shape.specs.Slaves.{ParentValue, SlaveValue, changes, greatest_start, has_clock, measures}
 use Rattle.segment_shape.specs.Values.{is_id}
@@ -17,7 +17,10 @@ use Rattle.segment_shape.specs.Written.{whole, items_for, kind_name, phase_name,
 use Rattle.segment_shape.specs.declared.loss_row.LossRow.{LossRow}
 use Rattle.segment_shape.specs.declared.loss_row.Phase.{Phase}
 use Rattle.segment_shape.specs.declared.loss_row.Phase.TheVariants.{Commission, Drift}
-use Rattle.segment_text.specs.Text.{entries_text}
+use Rattle.segment_file.specs.Legal.{IsLegal}
+use Rattle.segment_file.specs.Segment.{SegmentValue}
+use Rattle.segment_file.specs.Written.{segment_text, written}
+use Rattle.segment_file.proofs.WrittenLemmas.{written_file}
 use Rattle.segment_text.proofs.LengthLemmas.{number_short, number_at_short, number_if_short, id_text_short, id_at_short, entry_short, entry_short_if, entry_short_of, object_short, array_short}
 
 kind_is_id : (k : ClockKind) → is_id (kind_name k) ≡ true
@@ -90,7 +93,7 @@ losses_short : (slaves : ℕ) (losses : List LossRow) → slaves ≤ 256 → len
 losses_short slaves losses low few all =
     omega (arith, few, array_short loss_data 122 losses (λ k r h. loss_short slaves (get_or losses k r) low (all k r h)))
 
-pub file_short : (s : ShapeValue) → IsFile s → length (file_text s) ≤ 2719519
+file_short : (s : ShapeValue) → IsFile s → length (file_text s) ≤ 2719519
 unfolding file_data
 file_short s is =
     let h = s.head in
@@ -106,3 +109,7 @@ file_short s is =
     let version = number_at_short (codes "version") h.version refl (omega (arith, is.head.version.1)) in
     let value = object_short (file_entries s) 2719516 (simp length-append (omega (arith, cycle, cycles, epoch, frame, loss_run, losses, ppm, slaves, speed, version))) in
     omega (arith, value, length-append (compact_text (file_data s)) line_feed)
+
+-- so 16 MiB hold the text of any legal segment
+pub text_short : (s : SegmentValue) → IsLegal s → length (segment_text s) ≤ 16777216
+text_short s legal = omega (arith, file_short (written s) (written_file s legal))
