@@ -6,9 +6,9 @@ use Rattle.segment_text.proofs.laws.migration_keeps_segments.Goals as goal
 
 pub returns : goal.returns
 returns c = record {
-  version = λ s. refl;
   rows = λ s. refl;
   losses = λ s. refl;
+  head = λ s. refl;
   newest = newest;
   legal = migrated_legal;
   text = λ s legal. written_text (migrated s) (migrated_legal s legal);
