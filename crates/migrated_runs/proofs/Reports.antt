@@ -14,10 +14,6 @@ use Rattle.bench_report.specs.Delays.{delays_told}
 use Rattle.bench_report.specs.Edges.{edges_told}
 use Rattle.bench_report.specs.Reports.{drill_text, report_text, rows_text, summary_text, table_text}
 
-same_slave : (s : SegmentValue) → slave_at (migrated s) ≡ slave_at s
-unfolding slave_at
-same_slave s = refl
-
 same_reference : (s : SegmentValue) → reference_position (migrated s) ≡ reference_position s
 unfolding reference_position
 same_reference s = refl
