@@ -2,7 +2,8 @@
 
 Works come from standard input, a JSON object a line: `name`, `words`, and `input`, the path of a file or null. Each is done five times
 by each program, one after the other, and the least wall clock counts. A program has to end with status 0, and both have to write the same
-bytes. Prints a line for each work: seconds, the most memory (MiB), and where there is another program its seconds and the ratio.
+bytes. Prints a line for each work: seconds, the most memory (MiB), and where there is another program its seconds and the ratio. A program
+begins as a copy of this script, so less memory than the script has, some 14 MiB, is not told.
 """
 import json
 import os

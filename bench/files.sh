@@ -16,7 +16,7 @@ awk 'BEGIN {
         printf "%s{\"id\":\"S%d\",\"clock\":\"c64\",\"tp_ns\":310,\"tf_ns\":300,\"cable_ps\":%d", i ? "," : "", i, i ? 50000 : 20000
         if (i) printf ",\"parent\":\"S%d\",\"port\":1", i - 1
         printf ",\"start\":%d,\"phase_fs\":%d,\"period_fs\":10000000,\"shift_ns\":%d,\"rates\":[", (i * 15485863) % 4000000000, 1 + (i * 104729) % 9000000, (i * 1009) % 40000
-        for (k = 1; k <= 64; k++) printf "%s{\"tick\":%d,\"period_fs\":%d}", k > 1 ? "," : "", k * 100000, 9999500 + (k * 7919 + i) % 1001
+        for (k = 1; k <= 64; k++) printf "%s{\"tick\":%d,\"period_fs\":%d}", (k > 1 ? "," : ""), k * 100000, 9999500 + (k * 7919 + i) % 1001
         printf "]}"
     }
     print "]}"
