@@ -5,7 +5,7 @@ check_pages.py
 
 Every crate of crates.txt has a page, and every page of a crate is of one that is listed. Each example on it stands, line for line, in the file
 that is named above it. Each clause that a table of a crate's page names, or that docs/PROVED.md names, stands in that crate's code, and so does
-each call. Each link of the pages leads to a file, and each anchor to a heading. Whether a clause says what the page says of it, a reader has to judge.
+each call; those that the README names stand in one. Each link of the pages leads to a file, and each anchor to a heading. Whether a clause says what the page says of it, a reader has to judge.
 """
 import pathlib, re, sys
 
@@ -65,6 +65,15 @@ def check_examples(page, text):
             place = lines.index(line, place)
 
 
+def check_sentences(page, text):
+    """Where a sentence names a call and its clauses, as (`call`: `clause`, `clause`), a crate that has the call has them."""
+    for calls, clauses in re.findall(r'[(;]\s*((?:`[\w:]+`(?:,\s+)?)+):\s+((?:`\w+`(?:,\s+)?)+)', text):
+        for call in (it.split('::')[-1] for it in names_in(calls)):
+            having = [code_of(it.name) for it in (HERE / 'crates').iterdir() if re.search(rf'\bfn {call}\b', code_of(it.name))]
+            if not any(all(f'ensures {clause} ' in code for clause in names_in(clauses)) for code in having):
+                complain(page, f'no crate has {call} with {clauses}')
+
+
 def anchor(heading):
     return re.sub(r'[^\w\- ]', '', heading.lower()).replace(' ', '-')
 
@@ -101,6 +110,7 @@ def main():
                 for crate in names_in(row[3]):
                     check_calls(proved, crate, row[1])
                     check_clauses(proved, crate, row[2])
+    check_sentences(HERE / 'README.md', (HERE / 'README.md').read_text())
     for page in filter(pathlib.Path.exists, PAGES):
         check_links(page, page.read_text())
     print(*wrong, sep='\n', file=sys.stderr)
