@@ -3,7 +3,7 @@
 
 check_pages.py
 
-Every crate of crates.txt has a page, and every page of a crate is of one that is listed. Each example on it stands, line for line, in the file
+Every crate of crates.txt has a page and a place on the map, and every page of a crate is of one that is listed. Each example on it stands, line for line, in the file
 that is named above it. Each clause that a table of a crate's page names, or that docs/PROVED.md names, stands in that crate's code, and so does
 each call; those that the README names stand in one. Each link of the pages leads to a file, and each anchor to a heading. Whether a clause says what the page says of it, a reader has to judge.
 """
@@ -103,6 +103,8 @@ def main():
                     check_calls(page, crate, row[0])
                     check_clauses(page, crate, row[1])
         check_examples(page, page.read_text())
+        if f'`{crate}`' not in (HERE / 'docs/ARCHITECTURE.md').read_text():
+            complain(HERE / 'docs/ARCHITECTURE.md', f'{crate} is not on the map')
     proved = HERE / 'docs/PROVED.md'
     for head, rows in tables_of(proved.read_text() if proved.exists() else ''):
         if head == ['Promise', 'Call', 'Clause', 'Crate']:
