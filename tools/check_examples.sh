@@ -1,6 +1,6 @@
 #!/usr/bin/env bash
 # Sees that the files of examples/ are answered as examples/README.md says: `check`, `delays` and `run` of each legal file, and the
-# status and the line on standard error of each refusal.
+# status and the line on standard error of each refusal. And that the README shows a table as it is written.
 #
 # check_examples.sh [PROGRAM]; without a program the proved one, which has to be there.
 set -eu
@@ -29,6 +29,8 @@ for file in "$here"/examples/*.json; do
     answer=$("$program" run < "$file" 2>&1 | tail -n 4 | awk '{ printf "%s%s", behind ? " / " : "", $0; behind = 1 }') || true
     compare "$name: run" "$answer" "$wanted"
 done
+wanted=$(awk '/^\$ \.\/dc delays < examples\/two-slaves.json$/ { on = 1; next } /^```/ { on = 0 } on' "$here/README.md")
+compare "the README's table" "$("$program" delays < "$here/examples/two-slaves.json")" "$wanted"
 for file in "$here"/examples/refused/*.json; do
     refusals=$((refusals + 1))
     name=refused/${file##*/}
