@@ -112,6 +112,13 @@ ACCEPTED = [
     (SHIFTS, ('slaves', 1, 'sync1_ns'), 1), (LOSSES, ('losses', 0, 'after'), 0), (WARMING, RATE + ('tick',), 1),
 ]
 
+# Wrong edits of which an editor shows one line.
+TOLD_ONCE = [
+    *((name, place, GONE) for name, place in ((TWO, ('slaves', 1, 'clock')), (COUPLERS, COUPLER + ('clock',)), (JUNCTION, HUB + ('clock',)), (SHIFTS, ('slaves', 1, 'clock')))),
+    (TWO, ('slaves', 1, 'clock'), 'c16'), (COUPLERS, COUPLER + ('clock',), 'c16'),
+    (TWO, ('version',), GONE), (WARMING, ('version',), GONE),
+]
+
 
 def edited(name, place, value):
     """The example with the edit; a place of no keys is the whole file."""
@@ -146,9 +153,14 @@ def main():
     for edit in REFUSED:
         if validator.is_valid(edited(*edit)):
             faults.append('accepted, and should not be: ' + said(*edit))
+    for edit in TOLD_ONCE:
+        told = [error.message for error in validator.iter_errors(edited(*edit))]
+        if len(told) != 1:
+            faults.append('told %d times: %s' % (len(told), said(*edit)))
     for fault in faults:
         print('check_schema: ' + fault, file=sys.stderr)
-    print('check_schema: %d examples, %d right and %d wrong edits, %d faults' % (len(EXAMPLES), len(ACCEPTED), len(REFUSED), len(faults)))
+    print('check_schema: %d examples, %d right and %d wrong edits, %d that are told once, %d faults' % (
+        len(EXAMPLES), len(ACCEPTED), len(REFUSED), len(TOLD_ONCE), len(faults)))
     return 1 if faults else 0
 
 
