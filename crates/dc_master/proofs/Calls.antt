@@ -133,3 +133,11 @@ ready_as cfg w v ds es e f h = rw (e, f) h
 pub fresh_is : (cfg : ConfigValue) (w : Words) (ds : List (Option ℕ)) → w ≡ (beginning cfg).words → ds ≡ [] → StandsFor None (kept cfg stage.Fresh None (record { sent = 0; lost = 0; drifts = 0 }) w ds) []
 unfolding kept_after
 fresh_is cfg w ds e d = rw (e, d, progress_none cfg) refl
+
+pub fresh_at : (cfg : ConfigValue) (n : Counters) (w : Words) (ds : List (Option ℕ)) → IsFresh cfg n w ds → StandsFor None (kept cfg stage.Fresh None n w ds) []
+unfolding kept_after
+fresh_at cfg n w ds h = rw (h.sent, h.lost, h.drifts, h.words, h.delays, progress_none cfg) refl
+
+pub fresh_stands : (cfg : ConfigValue) (s : Stage) (o : Option Refusal) (n : Counters) (w : Words) (ds : List (Option ℕ)) → HasStage cfg n w ds s o → s ≡ stage.Fresh → StandsFor None (kept cfg s o n w ds) []
+fresh_stands cfg s None n w ds h e = let z : HasStage cfg n w ds stage.Fresh None = rw e at h in rw e (fresh_at cfg n w ds z)
+fresh_stands cfg s (Some r) n w ds h e = absurd (let z : HasStage cfg n w ds stage.Fresh (Some r) = rw e at h in z)

@@ -10,3 +10,7 @@ mod Planned
 mod Driving
 mod Calls
 mod Causes
+mod Counting
+mod Making
+mod Calling
+mod Exactly

@@ -2,6 +2,7 @@
 use Rattle.std.specs.Prelude.{◌≡◌, ℕ, ◌<◌, ◌≤◌, nat_lt, if◌then◌else◌, List, Option, Some, None, length}
 use Rattle.dc_master.specs.ConfigRange.{IsConfig, value_of}
 use Rattle.dc_master.specs.Known.{words_of}
+use Rattle.dc_master.specs.Made.{Stands}
 use Rattle.dc_master.specs.Places.{IsFresh, IsReady}
 use Rattle.dc_master.specs.declared.exchange.Counters.{Counters}
 use Rattle.dc_master.specs.declared.master.Master.TheInside.{Inside}
@@ -46,3 +47,4 @@ pub record IsKept (a : Inside) : Type 0 where
   pub drifts : a.notes.counters.drifts ≤ a.notes.counters.sent
   pub started : settle_frames (value_of a.config) < a.notes.counters.drifts → 1 ≤ length (clocks (words_of a.notes.learned).slaves)
   pub stage : HasStage (value_of a.config) a.notes.counters (words_of a.notes.learned) a.notes.delays.items a.stage a.refusal
+  pub stands : Stands (kept_of a)

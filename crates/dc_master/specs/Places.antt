@@ -2,6 +2,7 @@
 use Rattle.std.specs.Prelude.{◌≡◌, ℕ, ◌+◌, ◌-◌, ◌*◌, ◌%◌, ◌<◌, ◌≤◌, ⊤, ◌^◌, if◌then◌else◌, List, [], ◌∷◌, length, map, Option, Some, None, Result, Ok, Err}
 use Rattle.ecat_frame.specs.FrameGrammar.{DatagramValue, FrameValue}
 use Rattle.ecat_link.specs.Exchanges.{Exchange}
+use Rattle.ecat_link.specs.RoseBy.{RoseBy}
 use Rattle.dc_master.specs.declared.exchange.Counters.{Counters}
 use Rattle.master_script.specs.Causes.{CameMiscounted, CameOther}
 use Rattle.master_script.specs.Config.{ConfigValue}
@@ -129,6 +130,10 @@ pub record HasSent (n m : Counters) (most : ℕ) : Type 0 where
   pub few : m.sent ≤ n.sent + most
   pub lost : m.lost ≤ m.sent
   pub drifts : m.drifts ≤ m.sent
+
+-- the losses that were counted meanwhile are losses of the link: its count has risen by as many, or stands at its last value
+abbrev pub IsCounted : Counters → Counters → ℕ → ℕ → Type 0
+IsCounted n m before now = RoseBy (m.lost - n.lost) before now
 
 -- nothing was sent
 pub record IsFresh (cfg : ConfigValue) (n : Counters) (w : Words) (ds : List (Option ℕ)) : Type 0 where

@@ -6,7 +6,7 @@ ghost use Rattle.ecat_link.specs.RoseBy.{RoseBy};
 ghost use Rattle.ecat_link.specs.Serves.{Serves};
 ghost use Rattle.dc_master.specs.ConfigRange.{IsConfig, value_of};
 ghost use Rattle.dc_master.specs.Known.{words_of};
-ghost use Rattle.dc_master.specs.Places.{AfterPart, Asks, HasRoom, HasSent, IsFresh, IsReady};
+ghost use Rattle.dc_master.specs.Places.{AfterPart, Asks, HasRoom, HasSent, IsCounted, IsFresh, IsReady};
 ghost use Rattle.master_script.specs.Causes.{AreRefused, IsCause};
 ghost use Rattle.master_script.specs.Config.{slaves as slaves_of};
 ghost use Rattle.master_script.specs.Progress.{Arming, Commissioning, arm_steps, first_steps, later_steps};
@@ -40,6 +40,7 @@ pub(crate) fn commission<L: Link>(
     ensures sent { HasSent notes.old.counters notes.new.counters 2313 }
     ensures drifts { notes.new.counters.drifts ≡ 0 }
     ensures later { L.lost link.old ≤ L.lost link.new }
+    ensures counted { IsCounted notes.old.counters notes.new.counters (L.lost link.old) (L.lost link.new) }
     ensures lost { (q : _) → result ≡ Err (Lost q) → RoseBy 3 (L.lost link.old) (L.lost link.new) }
     ensures caused { IfErr result (IsCause (value_of config.now) Commission notes.new.counters.drifts (words_of notes.new.learned)) }
     ensures judged { (r : Reason) → AreRefused (value_of config.now) (words_of notes.new.learned).slaves r → result ≡ Err r }
@@ -77,6 +78,7 @@ fn identify_slaves<L: Link>(config: &Config, notes: &mut Notes, link: &mut L) ->
     ensures sent { HasSent notes.old.counters notes.new.counters 771 }
     ensures drifts { notes.new.counters.drifts ≡ notes.old.counters.drifts }
     ensures later { L.lost link.old ≤ L.lost link.new }
+    ensures counted { IsCounted notes.old.counters notes.new.counters (L.lost link.old) (L.lost link.new) }
     ensures lost { (q : _) → result ≡ Err (Lost q) → RoseBy 3 (L.lost link.old) (L.lost link.new) }
     ensures caused { IfErr result (IsCause (value_of config.now) Commission notes.new.counters.drifts (words_of notes.new.learned)) }
 {
@@ -112,6 +114,7 @@ fn measure<L: Link>(config: &Config, notes: &mut Notes, link: &mut L) -> Result<
     ensures sent { HasSent notes.old.counters notes.new.counters 774 }
     ensures drifts { notes.new.counters.drifts ≡ notes.old.counters.drifts }
     ensures later { L.lost link.old ≤ L.lost link.new }
+    ensures counted { IsCounted notes.old.counters notes.new.counters (L.lost link.old) (L.lost link.new) }
     ensures lost { (q : _) → result ≡ Err (Lost q) → RoseBy 3 (L.lost link.old) (L.lost link.new) }
     ensures caused { IfErr result (IsCause (value_of config.now) Commission notes.new.counters.drifts (words_of notes.new.learned)) }
 {
@@ -143,6 +146,7 @@ fn read_times<L: Link>(config: &Config, notes: &mut Notes, link: &mut L) -> Resu
     ensures sent { HasSent notes.old.counters notes.new.counters 768 }
     ensures drifts { notes.new.counters.drifts ≡ notes.old.counters.drifts }
     ensures later { L.lost link.old ≤ L.lost link.new }
+    ensures counted { IsCounted notes.old.counters notes.new.counters (L.lost link.old) (L.lost link.new) }
     ensures lost { (q : _) → result ≡ Err (Lost q) → RoseBy 3 (L.lost link.old) (L.lost link.new) }
     ensures caused { IfErr result (IsCause (value_of config.now) Commission notes.new.counters.drifts (words_of notes.new.learned)) }
 {
@@ -170,6 +174,7 @@ fn set_clocks<L: Link>(config: &Config, notes: &mut Notes, link: &mut L) -> Resu
     ensures sent { HasSent notes.old.counters notes.new.counters 768 }
     ensures drifts { notes.new.counters.drifts ≡ notes.old.counters.drifts }
     ensures later { L.lost link.old ≤ L.lost link.new }
+    ensures counted { IsCounted notes.old.counters notes.new.counters (L.lost link.old) (L.lost link.new) }
     ensures lost { (q : _) → result ≡ Err (Lost q) → RoseBy 3 (L.lost link.old) (L.lost link.new) }
     ensures caused { IfErr result (IsCause (value_of config.now) Commission notes.new.counters.drifts (words_of notes.new.learned)) }
 {
@@ -196,6 +201,7 @@ pub(crate) fn arm<L: Link>(config: &Config, notes: &mut Notes, link: &mut L) -> 
     ensures delays { notes.new.delays.items ≡ notes.old.delays.items }
     ensures sent { HasSent notes.old.counters notes.new.counters 768 }
     ensures later { L.lost link.old ≤ L.lost link.new }
+    ensures counted { IsCounted notes.old.counters notes.new.counters (L.lost link.old) (L.lost link.new) }
     ensures lost { (q : _) → result ≡ Err (Lost q) → RoseBy 3 (L.lost link.old) (L.lost link.new) }
     ensures caused { IfErr result (IsCause (value_of config.now) ArmCall notes.new.counters.drifts (words_of notes.new.learned)) }
 {

@@ -6,7 +6,7 @@ ghost use Rattle.ecat_link.specs.RoseBy.{RoseBy};
 ghost use Rattle.ecat_link.specs.Serves.{Serves};
 ghost use Rattle.dc_master.specs.ConfigRange.{IsConfig, value_of};
 ghost use Rattle.dc_master.specs.Known.{words_of};
-ghost use Rattle.dc_master.specs.Places.{AfterRun, AfterSettle, AtRest, HasRoom, HasSent, IsReady, IsTimed, sizes};
+ghost use Rattle.dc_master.specs.Places.{AfterRun, AfterSettle, AtRest, HasRoom, HasSent, IsCounted, IsReady, IsTimed, sizes};
 ghost use Rattle.master_script.specs.Causes.{IsCause};
 ghost use Rattle.master_script.specs.Config.{settle_frames as settle_frames_of};
 ghost use Rattle.master_script.specs.Frames.{drift_datagrams};
@@ -52,6 +52,7 @@ pub(crate) fn settle<L: Link>(
     ensures sent { HasSent notes.old.counters notes.new.counters 100016 }
     ensures drifts { OnOk result (notes.new.counters.drifts ≡ settle_frames_of (value_of config.now)) }
     ensures later { L.lost link.old ≤ L.lost link.new }
+    ensures counted { IsCounted notes.old.counters notes.new.counters (L.lost link.old) (L.lost link.new) }
     ensures lost { (q : _) → result ≡ Err (Lost q) → RoseBy (settle_frames_of (value_of config.now)) (L.lost link.old) (L.lost link.new) }
     ensures caused { IfErr result (IsCause (value_of config.now) SettleCall notes.new.counters.drifts (words_of notes.new.learned)) }
 {
@@ -110,6 +111,7 @@ pub(crate) fn run<L: Link>(
     ensures delays { notes.new.delays.items ≡ notes.old.delays.items }
     ensures sent { HasSent notes.old.counters notes.new.counters frames }
     ensures later { L.lost link.old ≤ L.lost link.new }
+    ensures counted { IsCounted notes.old.counters notes.new.counters (L.lost link.old) (L.lost link.new) }
     ensures caused { IfErr result (IsCause (value_of config.now) (Run frames) notes.new.counters.drifts (words_of notes.new.learned)) }
     ensures lost { (q : _) → result ≡ Err (Lost q) → ⊥ }
 {

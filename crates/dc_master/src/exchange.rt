@@ -9,7 +9,7 @@ ghost use Rattle.master_script.specs.Steps.{frame_of};
 ghost use Rattle.master_script.specs.Words.{Words};
 ghost use Rattle.master_script.specs.declared.step.Step.{Step as AnyStep};
 ghost use Rattle.dc_master.specs.ConfigRange.{value_of};
-ghost use Rattle.dc_master.specs.Places.{AfterTries, Asks, call_of, one_sent, phase_of};
+ghost use Rattle.dc_master.specs.Places.{AfterTries, Asks, IsCounted, call_of, one_sent, phase_of};
 
 use crate::config::Config;
 use crate::learned::Learned;
@@ -50,6 +50,7 @@ pub(crate) fn send<L: Link>(
         (record { wait_ns = (value_of config.now).frame_ns; sent = sent.now; back = result }) }
     ensures counters { counters.new ≡ one_sent drifts result counters.old }
     ensures later { L.lost link.old ≤ L.lost link.new }
+    ensures counted { IsCounted counters.old counters.new (L.lost link.old) (L.lost link.new) }
     ensures lost { result ≡ None → RoseBy 1 (L.lost link.old) (L.lost link.new) }
 {
     let mut frame = *sent;
@@ -84,6 +85,7 @@ pub(crate) fn ask<L: Link>(
     ensures still { drift_one (phase_of step) ≡ 0 → counters.new.drifts ≡ counters.old.drifts }
     ensures all { drift_one (phase_of step) ≡ 1 → counters.new.drifts + counters.old.sent ≡ counters.old.drifts + counters.new.sent }
     ensures later { L.lost link.old ≤ L.lost link.new }
+    ensures counted { IsCounted counters.old counters.new (L.lost link.old) (L.lost link.new) }
     ensures lost { result ≡ None → RoseBy 3 (L.lost link.old) (L.lost link.new) }
 {
     for _try in 0..3u8 {

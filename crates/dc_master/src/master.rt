@@ -1,8 +1,9 @@
-ghost use Rattle.std.specs.Prelude.{◌≡◌, ◌↔◌, ◌≤◌, ◌⊎◌, ℕ, [], Err, IfOk, IsSome, None, OnErr, OnOk, Some, slice_index_or};
+ghost use Rattle.std.specs.Prelude.{◌≡◌, ◌↔◌, ◌-◌, ◌≤◌, ◌⊎◌, ℕ, [], Err, IfOk, IsSome, None, OnErr, OnOk, Some, slice_index_or};
 ghost use Rattle.ecat_link.specs.RoseBy.{RoseBy};
 ghost use Rattle.ecat_link.specs.Serves.{Serves};
 ghost use Rattle.dc_master.specs.ConfigRange.{IsConfig, value_of};
 ghost use Rattle.dc_master.specs.Idle.{IsIdle};
+ghost use Rattle.dc_master.specs.Made.{IsOfSlaves, IsSpent, Makes, Stands};
 ghost use Rattle.master_script.specs.Causes.{AreRefused, IsCause};
 ghost use Rattle.master_script.specs.Config.{settle_frames as settle_frames_of};
 ghost use Rattle.master_script.specs.Kept.{Ends, StandsFor};
@@ -79,6 +80,8 @@ impl Master {
     pub fn stage(&self) -> Stage
         ensures is { result ≡ self.now.stage }
         ensures spent { (self.now.stage ≡ stage.Spent) ↔ IsSome self.now.refusal }
+        ensures stands { Stands self.now }
+        ensures fresh { self.now.stage ≡ stage.Fresh → StandsFor None self.now [] }
     {
         self.stage
     }
@@ -133,17 +136,22 @@ impl Master {
         ensures config { self.new.config ≡ self.old.config }
         ensures spent { (r : _) → self.old.refusal ≡ Some r → IsIdle L.state L.lost self.old self.new link.old link.new × (result ≡ Err (Spent r)) }
         ensures spent_before { (r : _) → result ≡ Err (Spent r) → self.old.refusal ≡ Some r }
+        ensures spent_exactly { (self.old.stage ≡ stage.Spent) ↔ IsSpent result }
+        ensures untouched { self.old.stage ≡ stage.Spent → link.new ≡ link.old }
         ensures serves { self.old.refusal ≡ None → Serves L.step (script self.old.config Commission)
             (StandsFor None self.old) (L.state link.old) (L.state link.new) (Ends self.old.config Commission self.new result) }
+        ensures made { self.old.refusal ≡ None → Makes L.step Commission self.old self.new (L.state link.old) (L.state link.new) result }
         ensures stage { OnOk result (self.new.stage ≡ stage.Commissioned) }
         ensures refusal { OnOk result (self.new.refusal ≡ None) }
         ensures ended { OnErr result (self.new.stage ≡ stage.Spent) }
         ensures refused { (r : _) → result ≡ Err (Refused r) → self.new.refusal ≡ Some r }
         ensures few { self.new.sent ≤ 203097 }
         ensures later { L.lost link.old ≤ L.lost link.new }
+        ensures counted { RoseBy (self.new.lost - self.old.lost) (L.lost link.old) (L.lost link.new) }
         ensures lost { (step : _) → result ≡ Err (Refused (Lost step)) → RoseBy 3 (L.lost link.old) (L.lost link.new) }
         ensures caused { (r : _) → result ≡ Err (Refused r) → IsCause self.old.config Commission self.new.drifts self.new.words r }
         ensures judged { (r : _) → self.old.refusal ≡ None → AreRefused self.old.config self.new.words.slaves r → result ≡ Err (Refused r) }
+        ensures judged_exactly { (r : _) → IsOfSlaves r → (result ≡ Err (Refused r)) ↔ ((self.old.stage ≡ stage.Fresh) × AreRefused self.old.config self.new.words.slaves r) }
     {
         if let Some(refusal) = self.refusal {
             return Err(MasterError::Spent(refusal));
@@ -167,14 +175,18 @@ impl Master {
         ensures config { self.new.config ≡ self.old.config }
         ensures spent { (r : _) → self.old.refusal ≡ Some r → IsIdle L.state L.lost self.old self.new link.old link.new × (result ≡ Err (Spent r)) }
         ensures spent_before { (r : _) → result ≡ Err (Spent r) → self.old.refusal ≡ Some r }
+        ensures spent_exactly { (self.old.stage ≡ stage.Spent) ↔ IsSpent result }
+        ensures untouched { self.old.stage ≡ stage.Spent → link.new ≡ link.old }
         ensures serves { self.old.refusal ≡ None → Serves L.step (script self.old.config Settle)
             (StandsFor None self.old) (L.state link.old) (L.state link.new) (Ends self.old.config Settle self.new result) }
+        ensures made { self.old.refusal ≡ None → Makes L.step Settle self.old self.new (L.state link.old) (L.state link.new) result }
         ensures stage { OnOk result (self.new.stage ≡ stage.Settled) }
         ensures refusal { OnOk result (self.new.refusal ≡ None) }
         ensures ended { OnErr result (self.new.stage ≡ stage.Spent) }
         ensures refused { (r : _) → result ≡ Err (Refused r) → self.new.refusal ≡ Some r }
         ensures few { self.new.sent ≤ 203097 }
         ensures later { L.lost link.old ≤ L.lost link.new }
+        ensures counted { RoseBy (self.new.lost - self.old.lost) (L.lost link.old) (L.lost link.new) }
         ensures lost { (step : _) → result ≡ Err (Refused (Lost step)) → RoseBy (settle_frames_of self.old.config) (L.lost link.old) (L.lost link.new) }
         ensures caused { (r : _) → result ≡ Err (Refused r) → IsCause self.old.config Settle self.new.drifts self.new.words r }
     {
@@ -200,14 +212,18 @@ impl Master {
         ensures config { self.new.config ≡ self.old.config }
         ensures spent { (r : _) → self.old.refusal ≡ Some r → IsIdle L.state L.lost self.old self.new link.old link.new × (result ≡ Err (Spent r)) }
         ensures spent_before { (r : _) → result ≡ Err (Spent r) → self.old.refusal ≡ Some r }
+        ensures spent_exactly { (self.old.stage ≡ stage.Spent) ↔ IsSpent result }
+        ensures untouched { self.old.stage ≡ stage.Spent → link.new ≡ link.old }
         ensures serves { self.old.refusal ≡ None → Serves L.step (script self.old.config Arm)
             (StandsFor None self.old) (L.state link.old) (L.state link.new) (Ends self.old.config Arm self.new result) }
+        ensures made { self.old.refusal ≡ None → Makes L.step Arm self.old self.new (L.state link.old) (L.state link.new) result }
         ensures stage { OnOk result (self.new.stage ≡ stage.Armed) }
         ensures refusal { OnOk result (self.new.refusal ≡ None) }
         ensures ended { OnErr result (self.new.stage ≡ stage.Spent) }
         ensures refused { (r : _) → result ≡ Err (Refused r) → self.new.refusal ≡ Some r }
         ensures few { self.new.sent ≤ 203097 }
         ensures later { L.lost link.old ≤ L.lost link.new }
+        ensures counted { RoseBy (self.new.lost - self.old.lost) (L.lost link.old) (L.lost link.new) }
         ensures lost { (step : _) → result ≡ Err (Refused (Lost step)) → RoseBy 3 (L.lost link.old) (L.lost link.new) }
         ensures caused { (r : _) → result ≡ Err (Refused r) → IsCause self.old.config Arm self.new.drifts self.new.words r }
     {
@@ -234,14 +250,18 @@ impl Master {
         ensures config { self.new.config ≡ self.old.config }
         ensures spent { (r : _) → self.old.refusal ≡ Some r → IsIdle L.state L.lost self.old self.new link.old link.new × (result ≡ Err (Spent r)) }
         ensures spent_before { (r : _) → result ≡ Err (Spent r) → self.old.refusal ≡ Some r }
+        ensures spent_exactly { (self.old.stage ≡ stage.Spent) ↔ IsSpent result }
+        ensures untouched { self.old.stage ≡ stage.Spent → link.new ≡ link.old }
         ensures serves { self.old.refusal ≡ None → Serves L.step (script self.old.config (Run frames))
             (StandsFor None self.old) (L.state link.old) (L.state link.new) (Ends self.old.config (Run frames) self.new result) }
+        ensures made { self.old.refusal ≡ None → Makes L.step (Run frames) self.old self.new (L.state link.old) (L.state link.new) result }
         ensures stage { OnOk result (self.new.stage ≡ stage.Ended) }
         ensures refusal { OnOk result (self.new.refusal ≡ None) }
         ensures ended { OnErr result (self.new.stage ≡ stage.Spent) }
         ensures refused { (r : _) → result ≡ Err (Refused r) → self.new.refusal ≡ Some r }
         ensures few { self.new.sent ≤ 203097 }
         ensures later { L.lost link.old ≤ L.lost link.new }
+        ensures counted { RoseBy (self.new.lost - self.old.lost) (L.lost link.old) (L.lost link.new) }
         ensures lost { (step : _) → result ≡ Err (Refused (Lost step)) → ⊥ }
         ensures caused { (r : _) → result ≡ Err (Refused r) → IsCause self.old.config (Run frames) self.new.drifts self.new.words r }
     {

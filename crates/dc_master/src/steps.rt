@@ -10,7 +10,7 @@ ghost use Rattle.master_script.specs.declared.step.Refusal.TheVariants.{Lost};
 ghost use Rattle.master_script.specs.declared.step.Step.{Step as AnyStep};
 ghost use Rattle.dc_master.specs.ConfigRange.{IsConfig, value_of};
 ghost use Rattle.dc_master.specs.Known.{words_of};
-ghost use Rattle.dc_master.specs.Places.{AfterStep, Asks, CanAsk, CanLearn, IsCauseAt, IsReceived, call_of, phase_of};
+ghost use Rattle.dc_master.specs.Places.{AfterStep, Asks, CanAsk, CanLearn, IsCauseAt, IsCounted, IsReceived, call_of, phase_of};
 
 use crate::config::Config;
 use crate::exchange::{Notes, ask};
@@ -46,6 +46,7 @@ pub(crate) fn take<L: Link>(
     ensures all { drift_one (phase_of step) ≡ 1
         → notes.new.counters.drifts + notes.old.counters.sent ≡ notes.old.counters.drifts + notes.new.counters.sent }
     ensures later { L.lost link.old ≤ L.lost link.new }
+    ensures counted { IsCounted notes.old.counters notes.new.counters (L.lost link.old) (L.lost link.new) }
     ensures lost { (q : _) → result ≡ Err (Lost q) → RoseBy 3 (L.lost link.old) (L.lost link.new) }
     ensures caused { IfErr result (IsCauseAt (value_of config.now) (words_of notes.new.learned) step) }
 {

@@ -1,4 +1,6 @@
--- Why a call is refused, whatever link it was made over: what came back for the frame of a step, or what the slaves told.
+-- Why a call is refused, whatever link it was made over. A link need not tell what came back, so the causes of Reply and
+-- Counter speak of some frame of the grammar; over a link that tells its state the exchanges that were made have it. What the
+-- slaves told is kept, and exact over any link.
 use Rattle.std.specs.Prelude.{◌≡◌, ℕ, ⊤, List, length, Some, None, Err}
 use Rattle.ecat_frame.specs.Difference.{first_difference}
 use Rattle.ecat_frame.specs.FrameGrammar.{FrameValue, IsFrame}
@@ -31,13 +33,14 @@ IsLostIn SettleCall step = ⊥
 IsLostIn (Run frames) step = ⊥
 IsLostIn call step = IsJudgedIn call 0 step
 
--- a frame came back in which this is the first byte that differs and may not
+-- there is a frame of the grammar in which this is the first byte that differs from the sent one and may not
 pub record CameOther (sent : FrameValue) (at : ℕ) : Type 0 where
   pub reply : FrameValue
   pub valid : IsFrame reply
   pub differs : first_difference sent reply ≡ Some at
 
--- a frame came back that differs only where it may, and these are the numbers of its first counter that is not the expected one
+-- there is a frame of the grammar that differs from that of the step only where it may, and these are the expected number and
+-- its own at its first counter that is not the expected one
 pub record CameMiscounted (cfg : ConfigValue) (w : Words) (step : Step) (e k : ℕ) : Type 0 where
   pub reply : FrameValue
   pub valid : IsFrame reply

@@ -1,5 +1,5 @@
--- The table of the script: the datagrams of each step's frame, in their order (ETG.1000.4, section 5.4; the registers by
--- the ESC data sheet).
+-- The table of the script: the datagrams of each step's frame, in their order. The script is ours; the commands are those
+-- of ETG.1000.4, and the registers those of the ESC data sheet.
 use Rattle.std.specs.Prelude.{ℕ, ◌+◌, Bool, if◌then◌else◌, List, [], ◌∷◌, ◌++◌, replicate, Option, Some, None}
 use Rattle.byteorder.specs.Endian.{little_bytes}
 use Rattle.ecat_frame.specs.Built.{fresh}

@@ -4,6 +4,7 @@ use Rattle.master_script.specs.Script.{Arm as ArmCall}
 use Rattle.std.specs.List.{range_with_len}
 use Rattle.ecat_link.proofs.Serving.{serves_none, serves_weaker}
 use Rattle.dc_bounds.specs.Weight.{flag}
+use Rattle.dc_master.proofs.Counting.{counted_none, counted_then}
 use Rattle.dc_master.specs.ConfigRange.{value_of}
 use Rattle.dc_master.specs.Known.{words_of}
 use Rattle.dc_master.proofs.Left.{left, left_end, left_no, left_yes}
@@ -30,6 +31,7 @@ loop-position-init g c =
       delays = refl;
       sent = record { more = omega arith; few = omega arith; lost = c.requires.room.lost; drifts = c.requires.room.drifts };
       later = omega arith;
+      counted = counted_none c.args.notes.now.counters _;
     }
 
 pub returns-in-Err-clause-serves : goal.returns-in-Err-clause-serves
@@ -75,6 +77,7 @@ loop-position-preserved g c =
             delays = e.delays ∙ i.delays;
             sent = record { more = omega (arith, e.sent.0, i.sent.more); few = omega (arith, e.sent.1, i.sent.few); lost = e.fewer; drifts = e.drifts };
             later = omega (arith, e.later, i.later);
+            counted = counted_then c.args.notes.now.counters l.notes.counters b.take.new.notes.counters _ _ _ i.counted e.counted;
           })
       | else-is_clock b ↦
           let unmarked : flags l.position ≡ false = told ∙ b.if-is_clock.false in
@@ -85,6 +88,7 @@ loop-position-preserved g c =
             delays = i.delays;
             sent = record { more = i.sent.more; few = omega (arith, i.sent.few); lost = i.sent.lost; drifts = i.sent.drifts };
             later = i.later;
+            counted = i.counted;
           })
     ]
 

@@ -3,7 +3,7 @@ use Rattle.ecat_link.specs.Serves.{Serves}
 use Rattle.dc_bounds.specs.Weight.{flag}
 use Rattle.dc_master.specs.ConfigRange.{value_of}
 use Rattle.dc_master.specs.Known.{words_of}
-use Rattle.dc_master.specs.Places.{Asks, HasSent}
+use Rattle.dc_master.specs.Places.{Asks, HasSent, IsCounted}
 use Rattle.dc_master.proofs.Left.{left}
 use Rattle.dc_master.proofs.commission.arm.Given as goal
 use Rattle.master_script.specs.Progress.{Arming, arm_steps}
@@ -24,4 +24,5 @@ invariant-loop-position g l =
       delays : l.notes.delays.items ≡ l.fn.notes.delays.items;
       sent : HasSent l.fn.notes.counters l.notes.counters (3 * l.position);
       later : g.L.Link.lost l.fn.link ≤ g.L.Link.lost l.link;
+      counted : IsCounted l.fn.notes.counters l.notes.counters (g.L.Link.lost l.fn.link) (g.L.Link.lost l.link);
     }

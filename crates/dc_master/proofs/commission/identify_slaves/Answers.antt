@@ -7,6 +7,7 @@ use Rattle.std.specs.List.{range_with_len}
 use Rattle.std.proofs.lemmas.List.{length_push}
 use Rattle.ecat_link.proofs.Serving.{serves_weaker}
 use Rattle.dc_delay.specs.ShapeRows.{positions}
+use Rattle.dc_master.proofs.Counting.{counted_then}
 use Rattle.dc_master.specs.ConfigRange.{value_of}
 use Rattle.dc_master.specs.Known.{words_of}
 use Rattle.dc_master.proofs.Parts.{at_todo, range_more, refused_part, shown_none, then_err, then_ok}
@@ -44,6 +45,7 @@ loop-position-init g c =
       sent = record { more = omega (arith, e.sent.0); few = omega (arith, e.sent.1); lost = e.fewer; drifts = e.drifts };
       drifts = e.still refl;
       later = e.later;
+      counted = e.counted;
     }
 
 pub returns-in-Err-take-clause-serves : goal.returns-in-Err-take-clause-serves
@@ -80,6 +82,7 @@ loop-position-preserved g c =
       sent = record { more = omega (arith, e.sent.0, s.more); few = omega (arith, e.sent.1, s.few); lost = e.fewer; drifts = e.drifts };
       drifts = e.still refl ∙ l.invariant.drifts;
       later = omega (arith, e.later, l.invariant.later);
+      counted = counted_then c.args.notes.now.counters l.notes.counters c.take-in-loop-position.new.notes.counters _ _ _ l.invariant.counted e.counted;
     }
 
 pub returns-in-Err-clause-caused : goal.returns-in-Err-clause-caused

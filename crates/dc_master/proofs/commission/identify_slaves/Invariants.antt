@@ -3,7 +3,7 @@ use Rattle.std.specs.List.{range_with_len}
 use Rattle.ecat_link.specs.Serves.{Serves}
 use Rattle.dc_master.specs.ConfigRange.{value_of}
 use Rattle.dc_master.specs.Known.{words_of}
-use Rattle.dc_master.specs.Places.{Asks, HasSent}
+use Rattle.dc_master.specs.Places.{Asks, HasSent, IsCounted}
 use Rattle.dc_master.proofs.commission.identify_slaves.Given as goal
 use Rattle.master_script.specs.Progress.{Commissioning, first_steps}
 use Rattle.master_script.specs.Script.{Commission, script}
@@ -22,4 +22,5 @@ invariant-loop-position g l = record {
   sent : HasSent l.fn.notes.counters l.notes.counters (3 + 3 * l.position);
   drifts : l.notes.counters.drifts ≡ l.fn.notes.counters.drifts;
   later : g.L.Link.lost l.fn.link ≤ g.L.Link.lost l.link;
+  counted : IsCounted l.fn.notes.counters l.notes.counters (g.L.Link.lost l.fn.link) (g.L.Link.lost l.link);
 }

@@ -7,6 +7,7 @@ use Rattle.ecat_link.proofs.Serving.{serves_none, serves_weaker}
 use Rattle.dc_bounds.specs.Weight.{flag}
 use Rattle.dc_delay.specs.Latched.{measures}
 use Rattle.dc_delay.specs.declared.latch.Latch.{Latch}
+use Rattle.dc_master.proofs.Counting.{counted_none, counted_then}
 use Rattle.dc_master.specs.ConfigRange.{value_of}
 use Rattle.dc_master.specs.Known.{words_of}
 use Rattle.dc_master.proofs.Left.{left, left_end}
@@ -39,6 +40,7 @@ loop-position-init g c =
       sent = record { more = omega arith; few = omega arith; lost = c.requires.room.lost; drifts = c.requires.room.drifts };
       drifts = refl;
       later = omega arith;
+      counted = counted_none c.args.notes.now.counters _;
     }
 
 pub returns-in-Err-clause-serves : goal.returns-in-Err-clause-serves
@@ -90,6 +92,7 @@ loop-position-preserved g c =
             sent = record { more = omega (arith, e.sent.0, i.sent.more); few = omega (arith, e.sent.1, i.sent.few); lost = e.fewer; drifts = e.drifts };
             drifts = e.still refl ∙ i.drifts;
             later = omega (arith, e.later, i.later);
+            counted = counted_then c.args.notes.now.counters l.notes.counters b.take.new.notes.counters _ _ _ i.counted e.counted;
           })
       | else-is_measuring b ↦
           let no : flags l.position ≡ false = told ∙ b.if-is_measuring.false in
@@ -105,6 +108,7 @@ loop-position-preserved g c =
             sent = record { more = i.sent.more; few = omega (arith, i.sent.few); lost = i.sent.lost; drifts = i.sent.drifts };
             drifts = i.drifts;
             later = i.later;
+            counted = i.counted;
           })
     ]
 

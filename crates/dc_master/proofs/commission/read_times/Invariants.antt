@@ -4,7 +4,7 @@ use Rattle.dc_bounds.specs.Weight.{flag}
 use Rattle.dc_delay.specs.Latched.{measures}
 use Rattle.dc_master.specs.ConfigRange.{value_of}
 use Rattle.dc_master.specs.Known.{words_of}
-use Rattle.dc_master.specs.Places.{Asks, HasSent}
+use Rattle.dc_master.specs.Places.{Asks, HasSent, IsCounted}
 use Rattle.dc_master.proofs.Left.{left}
 use Rattle.dc_master.proofs.commission.read_times.Given as goal
 use Rattle.master_script.specs.Progress.{Commissioning}
@@ -31,4 +31,5 @@ invariant-loop-position g l =
       sent : HasSent l.fn.notes.counters l.notes.counters (3 * l.position);
       drifts : l.notes.counters.drifts ≡ l.fn.notes.counters.drifts;
       later : g.L.Link.lost l.fn.link ≤ g.L.Link.lost l.link;
+      counted : IsCounted l.fn.notes.counters l.notes.counters (g.L.Link.lost l.fn.link) (g.L.Link.lost l.link);
     }

@@ -6,6 +6,7 @@ use Rattle.master_script.specs.Slaves.{clocks}
 use Rattle.master_script.specs.Script.{Run}
 use Rattle.ecat_frame.specs.Built.{built}
 use Rattle.ecat_link.proofs.Serving.{serves_none, serves_weaker}
+use Rattle.dc_master.proofs.Counting.{counted_none, counted_then}
 use Rattle.dc_master.specs.ConfigRange.{value_of}
 use Rattle.dc_master.specs.Known.{words_of}
 use Rattle.dc_master.proofs.Driving.{ran_as, refused_as, run_back, run_missed, run_refused}
@@ -23,6 +24,7 @@ loop-number-init g c = record {
   delays = refl;
   sent = record { more = omega arith; few = omega arith; lost = c.requires.room.lost; drifts = c.requires.room.drifts };
   later = omega arith;
+  counted = counted_none c.args.notes.now.counters _;
 }
 
 pub returns-in-Some-judge_drift-clause-serves : goal.returns-in-Some-judge_drift-clause-serves
@@ -62,6 +64,7 @@ loop-number-preserved g c =
             delays = i.delays;
             sent = rw n (record { more = omega (arith, i.sent.more); few = omega (arith, i.sent.few); lost = omega (arith, i.sent.lost); drifts = omega (arith, i.sent.drifts) });
             later = omega (arith, i.later, s.later);
+            counted = counted_then c.args.notes.now.counters l.notes.counters m _ _ _ i.counted s.counted;
           }
       | in_default b ↦
           let s = b.in_default.ensures in
@@ -72,6 +75,7 @@ loop-number-preserved g c =
             delays = i.delays;
             sent = rw n (record { more = omega (arith, i.sent.more); few = omega (arith, i.sent.few); lost = omega (arith, i.sent.lost); drifts = omega (arith, i.sent.drifts) });
             later = omega (arith, i.later, s.later);
+            counted = counted_then c.args.notes.now.counters l.notes.counters m _ _ _ i.counted s.counted;
           }
     ]
 

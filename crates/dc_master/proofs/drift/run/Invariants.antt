@@ -2,7 +2,7 @@ use Rattle.std.proofs.Common.{◌≡◌, ◌≤◌, [], None}
 use Rattle.ecat_link.specs.Serves.{Serves}
 use Rattle.dc_master.specs.ConfigRange.{value_of}
 use Rattle.dc_master.specs.Known.{words_of}
-use Rattle.dc_master.specs.Places.{AtRest, HasSent}
+use Rattle.dc_master.specs.Places.{AtRest, HasSent, IsCounted}
 use Rattle.dc_master.proofs.Trying.{sent_of}
 use Rattle.dc_master.proofs.drift.run.Given as goal
 use Rattle.master_script.specs.Progress.{Running, progress}
@@ -17,4 +17,5 @@ invariant-loop-number g l = record {
   delays : l.notes.delays.items ≡ l.fn.notes.delays.items;
   sent : HasSent l.fn.notes.counters l.notes.counters l._number;
   later : g.L.Link.lost l.fn.link ≤ g.L.Link.lost l.link;
+  counted : IsCounted l.fn.notes.counters l.notes.counters (g.L.Link.lost l.fn.link) (g.L.Link.lost l.link);
 }

@@ -3,6 +3,7 @@ use Rattle.dc_master.proofs.Causes.{cause_as, drift_causes}
 use Rattle.master_script.specs.Script.{Settle as SettleCall}
 use Rattle.ecat_frame.specs.Built.{built}
 use Rattle.ecat_link.proofs.Serving.{serves_none, serves_weaker}
+use Rattle.dc_master.proofs.Counting.{counted_none, counted_then}
 use Rattle.dc_master.specs.ConfigRange.{value_of}
 use Rattle.dc_master.specs.Known.{words_of}
 use Rattle.dc_master.proofs.Driving.{ready_timed, refused_behind, refused_same, settle_back, settle_first, settle_missed, settle_none, time_none, timed_never, words_timed}
@@ -24,6 +25,7 @@ loop-number-init g c =
       sent = record { more = omega arith; few = omega arith; lost = c.requires.room.lost; drifts = c.requires.room.drifts };
       drifts = c.requires.first;
       later = omega arith;
+      counted = counted_none c.args.notes.now.counters _;
       rose = λ z. omega arith;
     }
 
@@ -74,6 +76,7 @@ loop-number-preserved g c =
             sent = rw m (record { more = omega (arith, i.sent.more); few = omega (arith, i.sent.few); lost = omega (arith, i.sent.lost); drifts = omega (arith, i.sent.drifts) });
             drifts = rw m (omega (arith, i.drifts));
             later = omega (arith, i.later, s.later);
+            counted = rw e.counters (counted_then c.args.notes.now.counters l.notes.counters c.send.new.counters _ _ _ i.counted s.counted);
             rose = λ z. absurd (let y = sym z ∙ ap (λ (x : Words). x.time) e.is.1 in cc);
           })
       | in_default b ↦
@@ -86,6 +89,7 @@ loop-number-preserved g c =
             sent = rw n (record { more = omega (arith, i.sent.more); few = omega (arith, i.sent.few); lost = omega (arith, i.sent.lost); drifts = omega (arith, i.sent.drifts) });
             drifts = rw n (omega (arith, i.drifts));
             later = omega (arith, i.later, s.later);
+            counted = counted_then c.args.notes.now.counters l.notes.counters c.send.new.counters _ _ _ i.counted s.counted;
             rose = λ z. let r = i.rose z in let x = s.lost refl in omega (arith, r, x, s.later);
           })
     ]

@@ -3,7 +3,7 @@ use Rattle.ecat_link.specs.RoseBy.{RoseBy}
 use Rattle.ecat_link.specs.Serves.{Serves}
 use Rattle.dc_master.specs.ConfigRange.{value_of}
 use Rattle.dc_master.specs.Known.{words_of}
-use Rattle.dc_master.specs.Places.{AtRest, HasSent}
+use Rattle.dc_master.specs.Places.{AtRest, HasSent, IsCounted}
 use Rattle.dc_master.proofs.Trying.{sent_of}
 use Rattle.dc_master.proofs.drift.settle.Given as goal
 use Rattle.master_script.specs.Progress.{Settling}
@@ -19,5 +19,6 @@ invariant-loop-number g l = record {
   sent : HasSent l.fn.notes.counters l.notes.counters l._number;
   drifts : l.notes.counters.drifts ≡ l._number;
   later : g.L.Link.lost l.fn.link ≤ g.L.Link.lost l.link;
+  counted : IsCounted l.fn.notes.counters l.notes.counters (g.L.Link.lost l.fn.link) (g.L.Link.lost l.link);
   rose : l.notes.learned.time ≡ None → RoseBy l._number (g.L.Link.lost l.fn.link) (g.L.Link.lost l.link);
 }

@@ -1,4 +1,5 @@
 use Rattle.std.proofs.Common.{refl, arith}
+use Rattle.dc_master.proofs.Counting.{counted_none, counted_then}
 use Rattle.dc_master.specs.ConfigRange.{value_of}
 use Rattle.dc_master.proofs.Trying.{tried_none, tried_lost, tried_came, tried_all}
 use Rattle.dc_master.proofs.exchange.ask.Goals as goal
@@ -12,6 +13,7 @@ loop-try-init g c = record {
   still = λ h. refl;
   all = λ h. refl;
   later = omega arith;
+  counted = counted_none c.args.counters.now _;
   rose = omega arith;
 }
 
@@ -36,6 +38,7 @@ loop-try-preserved g c =
       still = λ h. let d = l.invariant.still h in let z = c.drift_frames.ensures.is in rw counters (omega (arith, d, z, h));
       all = λ h. let d = l.invariant.all h in let z = c.drift_frames.ensures.is in rw counters (omega (arith, d, z, h));
       later = omega (arith, later, l.invariant.later);
+      counted = counted_then c.args.counters.now l.counters c.send.new.counters _ _ _ l.invariant.counted c.in_default.ensures.counted;
       rose = omega (arith, later, lost, l.invariant.rose);
     }
 

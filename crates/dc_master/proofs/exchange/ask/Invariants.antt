@@ -2,7 +2,7 @@ use Rattle.std.proofs.Common.{◌≡◌, ◌+◌, ◌≤◌, ◌∷◌, List}
 use Rattle.ecat_link.specs.RoseBy.{RoseBy}
 use Rattle.ecat_link.specs.Serves.{Serves}
 use Rattle.dc_master.specs.ConfigRange.{value_of}
-use Rattle.dc_master.specs.Places.{Asks, call_of, phase_of}
+use Rattle.dc_master.specs.Places.{Asks, IsCounted, call_of, phase_of}
 use Rattle.dc_master.proofs.Trying.{Tried}
 use Rattle.dc_master.proofs.exchange.ask.Given as goal
 use Rattle.master_script.specs.Progress.{drift_one}
@@ -22,5 +22,6 @@ invariant-loop-try g l = record {
   still : drift_one (phase_of l.step) ≡ 0 → l.counters.drifts ≡ l.fn.counters.drifts;
   all : drift_one (phase_of l.step) ≡ 1 → l.counters.drifts + l.fn.counters.sent ≡ l.fn.counters.drifts + l.counters.sent;
   later : g.L.Link.lost l.fn.link ≤ g.L.Link.lost l.link;
+  counted : IsCounted l.fn.counters l.counters (g.L.Link.lost l.fn.link) (g.L.Link.lost l.link);
   rose : RoseBy l._try (g.L.Link.lost l.fn.link) (g.L.Link.lost l.link);
 }

@@ -1,0 +1,58 @@
+-- That a master stands for some exchanges, and makes more.
+use Rattle.std.proofs.Common.{◌≡◌, ℕ, List, [], ◌++◌, Option, None, refl, sym, subst}
+use Rattle.ecat_link.specs.Exchanges.{Exchange, StepOf}
+use Rattle.ecat_link.specs.Serves.{Serves}
+use Rattle.dc_master.specs.Made.{HasMade, IsGiven, Makes, Stands}
+use Rattle.master_script.specs.Config.{ConfigValue}
+use Rattle.master_script.specs.Kept.{Ends, Kept, StandsFor, given}
+use Rattle.master_script.specs.Script.{Answer, Call, script}
+use Rattle.master_script.specs.Scripted.{AreScripted, IsLimited, none}
+use Rattle.master_script.specs.declared.step.Stage.{Stage}
+use Rattle.master_script.specs.declared.step.Stage.TheVariants as stage
+use Rattle.master_script.proofs.Limits.{calls_scripted}
+
+-- one that has made nothing
+pub stands_fresh : (m : Kept) → m.stage ≡ stage.Fresh → StandsFor None m [] → Stands m
+stands_fresh m s h = record {
+  exchanges = [];
+  made = record { frames = None; given = subst (λ x. IsGiven x None) (sym s) refl; scripted = none; stands = h };
+}
+
+-- in these stages `run` was given no number
+abbrev pub IsBefore : Stage → Type 0
+IsBefore s = (frames : Option ℕ) → IsGiven s frames → frames ≡ None
+
+pub before_run : (s t : Stage) → s ≡ t → IsBefore t → IsBefore s
+before_run s t e h = subst (λ x. IsBefore x) (sym e) h
+
+ungiven : (m : Kept) (es : List Exchange) → HasMade m es → IsBefore m.stage → StandsFor None m es
+ungiven m es h unrun = subst (λ o. StandsFor o m es) (unrun h.frames h.given) h.stands
+
+module _ {S : Type 0} (step : StepOf S) (call : Call) (m later : Kept) (s t : Option S) (answer : Answer)
+    (h : Stands m) (unrun : IsBefore m.stage)
+    (serves : Serves step (script m.config call) (StandsFor None m) s t (Ends m.config call later answer)) where
+  pub makes : Makes step call m later s t answer
+  makes =
+      let stood = ungiven m h.exchanges h.made unrun in
+      record {
+        before = h.exchanges;
+        made = h.made;
+        exchanges = serves.exchanges;
+        runs = serves.runs;
+        sends = serves.script h.exchanges stood;
+        ends = serves.stands h.exchanges stood;
+      }
+
+  pub stands_then : later.config ≡ m.config → IsLimited 100000 call → IsGiven later.stage (given call) → Stands later
+  stands_then e few g =
+      let stood = ungiven m h.exchanges h.made unrun in
+      record {
+        exchanges = h.exchanges ++ serves.exchanges;
+        made = record {
+          frames = given call;
+          given = g;
+          scripted = subst (λ (c : ConfigValue). AreScripted c 100000 (h.exchanges ++ serves.exchanges)) (sym e)
+              (calls_scripted m.config 100000 call h.exchanges serves.exchanges few h.made.scripted (serves.script h.exchanges stood));
+          stands = (serves.stands h.exchanges stood).stands;
+        };
+      }
