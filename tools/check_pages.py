@@ -83,6 +83,9 @@ def check_files(page, text):
         places = [HERE, HERE / 'crates', page.parent, *(HERE / 'crates').iterdir()]
         if not any((place / name).exists() for place in places):
             complain(page, f'there is no file {name}')
+    for name in re.findall(r'`(\w+\.(?:antt|rt))`', text):
+        if not any(HERE.glob(f'crates/*/*/{name}')):
+            complain(page, f'no crate has a file {name}')
 
 
 def anchor(heading):
