@@ -33,7 +33,8 @@ reach_fs measuring clocks loss_run frame_ns = (3 * measuring + 3 * clocks + loss
 abbrev pub silence_fs : ℕ → ℕ → ℕ
 silence_fs loss_run frame_ns = (loss_run + 1) * period_fs frame_ns
 
--- μ as a natural number, where it is above 0: by so many ns at least a difference falls from one frame that comes to the next
+-- μ as a natural number, where it is above 0: by so many ns at least a difference falls from one frame that comes to the next,
+-- or else to no more than the drift of loss_run + 1 periods
 abbrev pub sure_fall : ℕ → ℕ → ℕ → ℕ → ℕ
 sure_fall ppm frame_ns speed loss_run = unsigned_abs (lock_step ppm frame_ns speed loss_run)
 

@@ -1,6 +1,7 @@
 -- The receive times and the system time are the slave's own: no write stores them.
 use Rattle.std.proofs.Common.{◌≡◌, ℕ, ◌+◌, ◌<◌, ◌≤◌, ◌&&◌, ◌||◌, ◌⊎◌, Bool, true, false, List, [], ◌∷◌, length, slice_index, refl, arith, inl, inr}
 use Rattle.std.specs.Prelude.{nat_le, not}
+use Rattle.std.specs.Option.{is_some}
 use Rattle.std.specs.List.{list_any, list_all}
 use Rattle.std.proofs.lemmas.Bool.{cases_lt}
 use Rattle.std.proofs.lemmas.Bool.Decides.{nat_tests}
@@ -8,9 +9,10 @@ use Rattle.esc_regs.specs.declared.clock_kind.ClockKind.{ClockKind}
 use Rattle.esc_regs.specs.declared.table.Writing.{Writing}
 use Rattle.esc_regs.specs.declared.table.Writing.TheVariants.{Ignored, Stored, StoredInRange}
 use Rattle.esc_regs.specs.RegisterTable.{Register, registers, held, is_within}
-use Rattle.esc_regs.specs.RegisterAccess.{byte_after, stores, is_writable}
-use Rattle.esc_regs.specs.RegisterWrite.{stored_bytes}
-use Rattle.esc_regs.proofs.Storing.{is_stored}
+use Rattle.esc_regs.specs.RegisterAccess.{byte_after, stores, is_writable, is_refused, rate_by}
+use Rattle.esc_regs.specs.RegisterFile.{Registers}
+use Rattle.esc_regs.specs.RegisterWrite.{stored_bytes, written}
+use Rattle.esc_regs.proofs.Storing.{is_stored, write_is}
 use Rattle.esc_regs.proofs.TableFacts.{both, before_test, past_test, lacks_second, held_all}
 
 either : (b c : Bool) → (b || c) ≡ true → (b ≡ true) ⊎ (c ≡ true)
@@ -74,3 +76,17 @@ pub own_times : (kind : ClockKind) (in_range : Bool) (addr : ℕ) (bytes before 
     → before ≡ stored_bytes kind in_range addr bytes before
 own_times kind in_range addr bytes before low high =
     is_stored kind in_range addr bytes before before (record { size = refl; each = λ a. byte_stays kind in_range addr bytes before a low high })
+
+-- the test of such a write
+pub from_test : (addr n : ℕ) → (nat_le 0x0910 addr && nat_le (addr + n) 0x0920) ≡ true → 0x0910 ≤ addr
+from_test addr n h = low_test 0x0910 addr (both (nat_le 0x0910 addr) (nat_le (addr + n) 0x0920) h).0
+
+pub to_test : (addr n : ℕ) → (nat_le 0x0910 addr && nat_le (addr + n) 0x0920) ≡ true → addr + n ≤ 0x0920
+to_test addr n h = low_test (addr + n) 0x0920 (both (nat_le 0x0910 addr) (nat_le (addr + n) 0x0920) h).1
+
+-- it leaves the registers
+pub own_written : (r : Registers) (addr at : ℕ) (bytes : List ℕ) → at ≡ addr → is_refused r.kind at (length bytes) ≡ false → 0x0910 ≤ at → at + length bytes ≤ 0x0920
+    → r ≡ written r addr bytes
+own_written r addr at bytes a done low high =
+    write_is r r.kind addr at bytes r.bytes r.bytes (is_some (rate_by at bytes)) refl refl a done refl
+    (own_times r.kind (is_some (rate_by at bytes)) at bytes r.bytes (omega (arith, low)) high)

@@ -123,6 +123,28 @@ impl RegFile {
         if rules::is_refused(self.kind, start, bytes.len()) {
             return Written::REFUSED;
         }
+        if rules::is_own_time(start, bytes.len()) {
+            return Written {
+                access: Access::Done,
+                latched: false,
+                received: rules::received(start, bytes),
+                rate: None,
+                activation: None,
+            };
+        }
+        self.store(start, bytes)
+    }
+
+    // The same of a write that is not refused.
+    #[inline(never)]
+    fn store(&mut self, start: usize, bytes: &[u8]) -> Written
+        requires { is_refused self.old.kind start (length bytes.now) ≡ false }
+        ensures is { self.new ≡ written self.old start bytes.now }
+        ensures tells { result ≡ told self.old.kind start bytes.now }
+        ensures rate { IfSome result.rate (λ g. (2 ≤ g) × (g ≤ 255)) }
+        ensures kind { self.new.kind ≡ self.old.kind }
+        ensures whole { IsWhole self.new }
+    {
         let rate = rules::rate(start, bytes);
         rules::store_bytes(self.kind, rate.is_some(), &mut self.bytes, start, bytes);
         Written {

@@ -1,6 +1,6 @@
 //! This project's rule of register access, over plain addresses and bytes.
 
-ghost use Rattle.std.specs.Prelude.{◌≡◌, ℕ, ◌+◌, ◌-◌, ◌≤◌, ◌<◌, ◌&&◌, length, slice_index, if◌then◌else◌};
+ghost use Rattle.std.specs.Prelude.{◌≡◌, ℕ, ◌+◌, ◌-◌, ◌≤◌, ◌<◌, ◌&&◌, nat_le, length, slice_index, if◌then◌else◌};
 ghost use Rattle.esc_regs.specs.RegisterTable.{features, held, is_within};
 ghost use Rattle.esc_regs.specs.RegisterAccess.{touches, covers, lacks, is_refused, latches, received_by, rate_by, activation_by, stores};
 ghost use Rattle.esc_regs.specs.RegisterWrite.{stored_bytes};
@@ -62,6 +62,15 @@ pub(crate) fn received(addr: usize, bytes: &[u8]) -> Option<T32>
     } else {
         None
     }
+}
+
+/// Whether a write is one of the system time and the receive time behind it alone, as each drift frame has it. Both are
+/// the slave's own, so that it stores nothing, and tells a system time at most.
+pub(crate) fn is_own_time(addr: usize, n: usize) -> bool
+    requires { addr + n ≤ 4096 }
+    ensures { result ≡ (nat_le 0x0910 addr && nat_le (addr + n) 0x0920) }
+{
+    0x0910 <= addr && addr + n <= 0x0920
 }
 
 pub(crate) fn rate(addr: usize, bytes: &[u8]) -> Option<u8>
@@ -157,10 +166,6 @@ pub(crate) fn store_bytes(
     requires room { addr + length bytes.now ≤ 4096 }
     ensures { bytes_held.new ≡ stored_bytes kind in_range addr bytes.now bytes_held.old }
 {
-    // Each drift frame writes the system time. It is the slave's own, as all receive times are.
-    if 0x0900 <= addr && addr + bytes.len() <= 0x0920 {
-        return;
-    }
     let rows = rows();
     for row in rows {
         let (at, n, writes) = *row;

@@ -10,4 +10,3 @@ pub mod Steady
 pub mod Behind
 mod Rounds
 mod Share
-mod Near

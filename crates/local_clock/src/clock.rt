@@ -1,11 +1,11 @@
-ghost use Rattle.std.specs.Prelude.{◌≡◌, ℕ, ◌+◌, ◌^◌, ◌<◌, ◌≤◌, pos, ⊤, IfSome, nat_le, unsigned_abs};
+ghost use Rattle.std.specs.Prelude.{◌≡◌, ℕ, ◌+◌, ◌^◌, ◌<◌, ◌≤◌, pos, ⊤, IfSome, unsigned_abs};
 ghost use Rattle.local_clock.specs.Reading.{advanced, corrected, reset_to, started, steering_of, ticks_to};
 ghost use Rattle.local_clock.specs.WorkedOff.{IsSteady};
-ghost use Rattle.osc_clock.specs.Ticks.{IsRunning, instant};
+ghost use Rattle.osc_clock.specs.Ticks.{IsRunning};
 ghost use Rattle.local_clock.specs.FirstReaching.{IsFirstReaching, tick_after, within_time};
 
 use crate::steps::{share, ticked, ticks_to_pass};
-use osc_clock::Osc;
+use osc_clock::{Osc, Ticker};
 use std::alloc::AllocError;
 use std::marker::Model;
 use wrap_time::ClockWord;
@@ -14,10 +14,7 @@ use wrap_time::ClockWord;
 /// ahead on a copy of it.
 #[derive(Copy)]
 pub struct LocalClock<W: ClockWord> {
-    osc: Osc,
-    instant: u64,
-    // How many ticks there are until the instant.
-    taken: u64,
+    ticker: Ticker,
     reading: W,
     left: i64,
     count: u8,
@@ -27,7 +24,7 @@ pub struct LocalClock<W: ClockWord> {
 }
 
 impl<W: ClockWord> Model for LocalClock<W> {
-    ghost use Rattle.osc_clock.specs.Ticks.{IsRunning, ticks};
+    ghost use Rattle.osc_clock.specs.Ticks.{IsRunning};
     ghost use Rattle.local_clock.specs.Reading.{Clock};
     ghost use Rattle.local_clock.specs.AtOnce.{share_of};
 
@@ -35,17 +32,16 @@ impl<W: ClockWord> Model for LocalClock<W> {
 
     ghost use Rattle.std.specs.Prelude.{◌≡◌, ◌<◌, ◌≤◌, ◌^◌, pos, unsigned_abs};
 
-    ghost view = { λ a. record { osc = a.osc; instant = a.instant; reading = W.number a.reading; left = a.left; count = a.count; g = a.g } };
+    ghost view = { λ a. record { osc = a.ticker.osc; instant = a.ticker.instant; reading = W.number a.reading; left = a.left; count = a.count; g = a.g } };
 
     ghost invariant = { λ a. (a.count < a.g) × (a.left ≡ pos 0 → a.count ≡ 0) × (unsigned_abs a.left ≤ 2 ^ 31)
-        × (W.word (W.number a.reading) ≡ a.reading) × (a.taken ≡ ticks a.osc a.instant) × (a.share ≡ share_of a.g) × IsRunning a.osc };
+        × (W.word (W.number a.reading) ≡ a.reading) × (a.share ≡ share_of a.g) × IsRunning a.ticker.osc };
 
-    ghost inverse = { λ c. record { osc = c.osc; instant = c.instant; taken = ticks c.osc c.instant; reading = W.word c.reading; left = c.left; count = c.count; g = c.g; share = share_of c.g } };
+    ghost inverse = { λ c. record { ticker = record { osc = c.osc; instant = c.instant }; reading = W.word c.reading; left = c.left; count = c.count; g = c.g; share = share_of c.g } };
 
-    ghost use Rattle.std.proofs.Common.{ap, ap₂, sym, ◌∙◌};
+    ghost use Rattle.std.proofs.Common.{ap₂, sym};
 
-    ghost inverse_ok = { λ a h. ap (λ m. record a { reading = W.word (W.number a.reading); taken = ticks a.osc a.instant; share = m }) (sym h.5)
-        ∙ ap₂ (λ r n. record a { reading = r; taken = n }) h.3 (sym h.4) };
+    ghost inverse_ok = { λ a h. ap₂ (λ r m. record a { reading = r; share = m }) h.3 (sym h.4) };
 }
 
 impl<W: ClockWord> Clone for LocalClock<W> {
@@ -65,9 +61,7 @@ impl<W: ClockWord> LocalClock<W> {
         ensures { result ≡ started osc (W.number start) g }
     {
         LocalClock {
-            osc,
-            instant: 0,
-            taken: osc.ticks_until(0),
+            ticker: Ticker::new(osc),
             reading: start,
             left: 0,
             count: 0,
@@ -80,14 +74,14 @@ impl<W: ClockWord> LocalClock<W> {
     pub fn osc(&self) -> &Osc
         ensures { result.now ≡ self.now.osc }
     {
-        &self.osc
+        self.ticker.osc()
     }
 
     /// The true time at which it stands, in fs.
     pub fn now(&self) -> u64
         ensures { result ≡ self.now.instant }
     {
-        self.instant
+        self.ticker.now()
     }
 
     /// The local time, in ns.
@@ -129,32 +123,7 @@ impl<W: ClockWord> LocalClock<W> {
         ensures number { result ≡ ticks_to self.now t }
         ensures running { IsRunning self.now.osc }
     {
-        self.osc.ticks_until(t) - self.taken
-    }
-
-    /// The same number, with no division where it is `guess` or one more: pass what an earlier interval of
-    /// about this length had.
-    pub fn ticks_near(&self, t: u64, guess: u64) -> u64
-        requires { self.now.instant ≤ t }
-        ensures { result ≡ ticks_to self.now t }
-    {
-        let low = self.taken.saturating_add(guess);
-        if low == 0 || low > u64::MAX - 2 || !self.has_come(low, t) || self.has_come(low + 2, t) {
-            return self.ticks_to(t);
-        }
-        if self.has_come(low + 1, t) {
-            guess + 1
-        } else {
-            guess
-        }
-    }
-
-    // Whether a tick is at or before `t`.
-    fn has_come(&self, tick: u64, t: u64) -> bool
-        requires { 1 ≤ tick }
-        ensures { result ≡ nat_le (instant self.now.osc tick) t }
-    {
-        self.osc.instant_of(tick) <= u128::from(t)
+        self.ticker.ticks_to(t)
     }
 
     /// Takes the ticks after its instant and at or before `t`, and stands at `t`.
@@ -177,8 +146,7 @@ impl<W: ClockWord> LocalClock<W> {
         self.reading = self.reading.add((elapsed % (1 << 64)) as u64);
         self.left = left;
         self.count = count;
-        self.instant = t;
-        self.taken += ticks;
+        self.ticker.pass(ticks, t);
     }
 
     /// Begins to work off a difference, in ns: above 0 where the clock is ahead.
@@ -223,7 +191,7 @@ impl<W: ClockWord> LocalClock<W> {
         ensures later { IfSome result (λ t. self.now.instant < t) }
         ensures running { IsRunning self.now.osc }
     {
-        let tick = self.taken.checked_add(k)?;
-        u64::try_from(self.osc.instant_of(tick)).ok()
+        let tick = self.ticker.ticks().checked_add(k)?;
+        u64::try_from(self.ticker.osc().instant_of(tick)).ok()
     }
 }

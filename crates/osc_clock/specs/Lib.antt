@@ -1,3 +1,5 @@
 pub mod Ticks
 pub mod IntervalTicks
 pub mod InsideOsc
+pub mod Standing
+pub mod InsideTicker

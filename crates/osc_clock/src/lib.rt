@@ -4,7 +4,8 @@
 //! An [`Osc`] has its first tick at a phase and each further one a period after the one before, until
 //! a [`RateRow`] gives another period.
 //! Ticks are numbered from 1. [`Osc::ticks_until`] says how many there are by a time, and
-//! [`Osc::instant_of`] when one comes. Both go over the rows and never over ticks.
+//! [`Osc::instant_of`] when one comes. Both go over the rows and never over ticks. A [`Ticker`] is an
+//! oscillator that stands at a time, and counts its next ticks with neither rows nor a division.
 //!
 //! Contracts see an oscillator as `specs/Ticks.antt` defines it, where ticks come one by one. What
 //! layers above need of every oscillator, such as how many ticks an interval can have
@@ -14,7 +15,9 @@
 mod laws;
 mod osc;
 mod rate_row;
+mod ticker;
 
 pub use laws::{interval_ticks, steady_period, ticks_and_instants};
 pub use osc::Osc;
 pub use rate_row::{RateList, RateRow};
+pub use ticker::Ticker;

@@ -1,5 +1,6 @@
 ghost use Rattle.std.specs.Prelude.{◌≡◌, ℕ, ◌+◌, ◌*◌, ◌^◌, ◌<◌, ◌≤◌, ◌⊎◌, ◌↔◌, [], length, IsNone, IfSome, IsSome};
-ghost use Rattle.osc_clock.specs.Ticks.{Oscillator, AreRising, IsRunning, instant, ticks};
+ghost use Rattle.osc_clock.specs.Ticks.{Oscillator, AreRising, IsRunning, gap, instant, ticks};
+ghost use Rattle.osc_clock.specs.Standing.{steady_until};
 
 use crate::rate_row::{MAX_RATES, RateRow, are_rising, in_array};
 use std::marker::Model;
@@ -104,6 +105,30 @@ impl Osc {
             period = row.period_fs;
         }
         after(at, tick - reached, period)
+    }
+
+    /// When the first tick comes.
+    pub(crate) fn phase(&self) -> u64
+        ensures is { result ≡ self.now.phase }
+        ensures running { IsRunning self.now }
+    {
+        self.phase
+    }
+
+    /// The time from a tick to the next, and the tick up to which it stays so.
+    pub(crate) fn steady_from(&self, tick: u64) -> (u64, u64)
+        requires { 1 ≤ tick }
+        ensures period { result.0 ≡ gap self.now tick }
+        ensures until { result.1 ≡ steady_until self.now tick }
+    {
+        let mut period = self.period;
+        for row in &self.rows[..self.count] {
+            if tick < row.tick {
+                return (period, row.tick);
+            }
+            period = row.period_fs;
+        }
+        (period, u64::MAX)
     }
 }
 

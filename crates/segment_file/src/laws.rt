@@ -49,10 +49,10 @@ pub fn slaves_are_measurable()
     ensures measurable { (s : SegmentValue) → IsLegal s → unmeasurable (tree_rows s.rows) (measures_at s.rows) (order (tree_rows s.rows)) ≡ None }
 {}
 
-/// A frame comes back within a frame period, each drift frame that arrives brings a clock nearer by 1 ns or
-/// more, and the lead with two periods and three cycles is less than 2 s. Where the reference's time in the
-/// last settle frame that came back is the epoch and 10 ns for each of its ticks since the latch, the start
-/// of the units fits 63 bits.
+/// A frame comes back within a frame period, the fall μ from one drift frame that comes to the next is 1 ns
+/// or more, and the lead with two periods and three cycles is less than 2 s. Where the reference's time in
+/// the last settle frame that came back is the epoch and 10 ns for each of its ticks since the latch, the
+/// start of the units fits 63 bits.
 pub fn times_fit()
     ensures trip { (s : SegmentValue) → IsLegal s → round_trip (tree_rows s.rows) < period_fs s.head.frame_ns }
     ensures step { (s : SegmentValue) → IsLegal s → pos 1 ≤ℤ step_of s.head }

@@ -1,10 +1,10 @@
 -- What a slave makes of a datagram, by what is asked and whether the access is refused.
-use Rattle.std.proofs.Common.{◌≡◌, ◌↔◌, ℕ, List, length, Bool, true, false, Some, None, Option, ◌||◌, refl, sym, ap, ◌∙◌}
+use Rattle.std.proofs.Common.{◌≡◌, ◌↔◌, ℕ, List, [], length, Bool, true, false, Some, None, Option, ◌||◌, refl, sym, ap, ◌∙◌}
 use Rattle.std.specs.Prelude.{slice_get, if◌then◌else◌}
 use Rattle.ecat_frame.specs.FrameGrammar.{DatagramValue, FrameValue}
 use Rattle.ecat_frame.specs.Changed.{changed}
 use Rattle.wire_sim.specs.Seen.{replied}
-use Rattle.ecat_frame.proofs.Changes.{changed_agree}
+use Rattle.ecat_frame.proofs.Changes.{changed_agree, changed_twice}
 use Rattle.esc_regs.specs.declared.answers.Access.{Access}
 use Rattle.esc_regs.specs.declared.answers.Access.TheVariants as access
 use Rattle.esc_regs.specs.RegisterAccess.{is_refused}
@@ -159,3 +159,15 @@ answered_is s d k f request does read write adp wkc payload is asks r w does_is 
     what_is_done s d false request read write e asks r w =
         let same = doing_taken s d request asks e in
         does_it request read write (r ∙ ap reads same) (w ∙ ap writes same) ∙ sym same
+
+-- the same where nothing is read: ADP and counter are written one after the other
+pub left_is : (s : Slave) (d : DatagramValue) (k : ℕ) (f f₁ f₂ : FrameValue) (request does : Doing) (write : Bool) (adp wkc : ℕ) → slice_get f.datagrams k ≡ Some d
+    → request ≡ asked s d → reads request ≡ false → write ≡ writes (doing s d) → does ≡ (if write then request else Passes) → adp ≡ adp_after d
+    → wkc ≡ raised_by (gain does) d.wkc → f₁ ≡ changed k (λ e. record e { head = record e.head { adp = adp } }) f
+    → f₂ ≡ changed k (λ e. record e { wkc = wkc }) f₁ → f₂ ≡ changed k (datagram_after s) f
+left_is s d k f f₁ f₂ request does write adp wkc is asks never w does_is a c first second =
+    changed_twice k (λ e. record e { head = record e.head { adp = adp } }) (λ e. record e { wkc = wkc }) (replied false adp [] wkc) f f₁ f₂ d is first second refl
+    ∙ answered_is s d k f request does false write adp wkc [] is asks (sym (no_reads s d request asks never)) w does_is a nothing c
+  where
+    nothing : false ≡ true → [] ≡ payload_after (doing s d) s d
+    nothing h = absurd cc

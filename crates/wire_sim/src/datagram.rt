@@ -25,11 +25,23 @@ pub(crate) fn answer(slave: &mut Slave, frame: &mut Frame, k: usize, room: &mut 
     ensures latches { IfSome (slice_get frame.old.datagrams k) (λ d. result ≡ is_latching slave.old d) }
     ensures room { length room.new ≡ length room.old }
 {
-    let size = frame.datagram(k).payload.len();
-    answer_in(slave, frame, k, &mut room[..size])
+    let datagram = frame.datagram(k);
+    let request = request(slave, datagram.head);
+    if request.reads() {
+        let size = datagram.payload.len();
+        return answer_in(slave, frame, k, &mut room[..size]);
+    }
+    let written = act(slave, request, &datagram);
+    let doing = done_by(request, written.is_some());
+    let head = datagram.head;
+    let wkc = datagram.wkc;
+    leave_adp(frame, k, head.adp, adp_after(head));
+    leave_wkc(frame, k, wkc, wkc.wrapping_add(doing.gain()));
+    written.unwrap_or(false)
 }
 
-// The same, with just the room for the datagram's data.
+// The same, where data are asked for, with just the room for them.
+#[inline(never)]
 fn answer_in(slave: &mut Slave, frame: &mut Frame, k: usize, room: &mut [u8]) -> bool
     requires within { k < length frame.old.datagrams }
     requires size { IfSome (slice_get frame.old.datagrams k) (λ d. length room.old ≡ length d.payload) }
@@ -59,6 +71,29 @@ fn reply(frame: &mut Frame, k: usize, read: bool, adp: u16, payload: &[u8], wkc:
         frame.set_answer(k, adp, payload, wkc);
     } else {
         frame.set_adp(k, adp);
+        frame.set_wkc(k, wkc);
+    }
+}
+
+// Leaves the ADP of datagram k, which was `before`.
+fn leave_adp(frame: &mut Frame, k: usize, before: u16, adp: u16)
+    requires within { k < length frame.old.datagrams }
+    requires before { IfSome (slice_get frame.old.datagrams k) (λ d. before ≡ d.head.adp) }
+    ensures changed { frame.new ≡ changed k (λ d. record d { head = record d.head { adp = adp } }) frame.old }
+    ensures count { length frame.new.datagrams ≡ length frame.old.datagrams }
+{
+    if adp != before {
+        frame.set_adp(k, adp);
+    }
+}
+
+// Leaves the working counter of datagram k, which was `before`.
+fn leave_wkc(frame: &mut Frame, k: usize, before: u16, wkc: u16)
+    requires within { k < length frame.old.datagrams }
+    requires before { IfSome (slice_get frame.old.datagrams k) (λ d. before ≡ d.wkc) }
+    ensures { frame.new ≡ changed k (λ d. record d { wkc = wkc }) frame.old }
+{
+    if wkc != before {
         frame.set_wkc(k, wkc);
     }
 }
@@ -118,6 +153,7 @@ fn merge(payload: &[u8], room: &mut [u8])
 }
 
 // Writes the data as they were received. Tells whether the slave's ports latch, `None` where it does not write.
+#[inline(always)]
 fn act(slave: &mut Slave, request: Doing, datagram: &Datagram) -> Option<bool>
     requires request { doing_seen request ≡ asked slave.old (seen datagram.now) }
     ensures is { slave.new ≡ slave_after slave.old (seen datagram.now) }

@@ -1,4 +1,4 @@
-ghost use Rattle.std.specs.Prelude.{◌≡◌, ◌≤◌, ◌<◌, ◌⊎◌, None, Some, IfSome};
+ghost use Rattle.std.specs.Prelude.{◌≡◌, ◌≤◌, ◌<◌, None, Some, IfSome};
 ghost use Rattle.std.specs.Option.{option_map};
 ghost use Rattle.esc_regs.specs.RegisterFile.{Registers};
 ghost use Rattle.local_clock.specs.Reading.{advanced, ticks_to};
@@ -29,8 +29,6 @@ pub(crate) struct DcUnit<W: ClockWord> {
     // So many ticks of the clock raise no edge as long as the offset is `offset`.
     spare: u64,
     offset: W,
-    // A guess at the ticks between two visits.
-    usual: u64,
 }
 
 impl<W: ClockWord> Model for DcUnit<W> {
@@ -67,7 +65,6 @@ impl<W: ClockWord> DcUnit<W> {
             input: LatchUnit::new(),
             spare: 0,
             offset: W::cut(0),
-            usual: 0,
         }
     }
 
@@ -107,14 +104,12 @@ impl<W: ClockWord> DcUnit<W> {
         set_stamp(registers, stamp);
     }
 
-    // The same of the clock and its edges alone. Most visits are as far apart as the visit before them, and raise
-    // no edge, so that the ticks are guessed, and compared with those that are spare.
+    // The same of the clock and its edges alone. Most visits raise no edge, since their ticks are spare.
     fn count(&mut self, offset: W, t: u64)
         requires { self.old.clock.instant ≤ t }
         ensures { self.new ≡ record (timing_at W.WIDTH (W.number offset) t self.old) { event = self.old.event } }
     {
-        let ticks = self.clock.ticks_near(t, self.usual);
-        self.usual = guess_after(self.usual, ticks);
+        let ticks = self.clock.ticks_to(t);
         if ticks <= self.spare && offset.value() == self.offset.value() {
             self.pass(ticks, t);
         } else {
@@ -133,6 +128,8 @@ impl<W: ClockWord> DcUnit<W> {
     }
 
     // Raises the edges of so many ticks, counts these, and looks how many are spare from there on.
+    #[cold]
+    #[inline(never)]
     fn raise(&mut self, offset: W, ticks: u64, t: u64)
         requires later { self.old.clock.instant ≤ t }
         requires number { ticks ≡ ticks_to self.old.clock t }
@@ -164,17 +161,6 @@ impl<W: ClockWord> DcUnit<W> {
             system_time: Some(self.system_time(registers).value()),
             next_due: self.sync.next_due().map(|due| due.value()),
         }
-    }
-}
-
-// What to guess of the next interval. A guess that was right, or one too few, stays.
-fn guess_after(guess: u64, ticks: u64) -> u64
-    ensures { (result ≡ guess) ⊎ (result ≡ ticks) }
-{
-    if ticks.wrapping_sub(guess) <= 1 {
-        guess
-    } else {
-        ticks
     }
 }
 

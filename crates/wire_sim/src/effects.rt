@@ -14,6 +14,7 @@ use esc_regs::{
 use wrap_time::{ClockWord, T32};
 
 /// The effects of a write that tells this.
+#[inline(always)]
 pub(crate) fn affect<W: ClockWord>(registers: &mut RegFile, unit: &mut DcUnit<W>, told: &Written)
     requires width { W.WIDTH ≡ width registers.old.kind }
     requires rate { IfSome told.now.rate (λ rate. 1 ≤ rate) }

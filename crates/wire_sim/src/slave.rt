@@ -78,6 +78,7 @@ impl Slave {
 
     /// Stores what a frame writes, and carries out what that tells.
     #[tactic(auto, unfolding(frame_pass::specs::WriteEffects::wrote))]
+    #[inline(always)]
     pub(crate) fn write(&mut self, addr: u16, bytes: &[u8]) -> Written
         ensures is { self.new ≡ wrote addr bytes.now self.old }
         ensures tells { result ≡ told self.old.registers.kind addr bytes.now }

@@ -1,14 +1,9 @@
 use Rattle.std.proofs.Common.{arith}
 use Rattle.std.proofs.lemmas.List.{get_or_default}
 use Rattle.esc_regs.proofs.RowWrites.{one_on, one_off, by_table}
-use Rattle.esc_regs.proofs.OwnTimes.{own_times}
 use Rattle.esc_regs.proofs.Storing.{is_stored}
 use Rattle.esc_regs.proofs.rules.store_bytes.Goals as goal
 use Rattle.esc_regs.proofs.rules.store_bytes.Goals.{then-stores, else-stores}
-
-pub returns-then-addr-bytes-le2336 : goal.returns-then-addr-bytes-le2336
-returns-then-addr-bytes-le2336 c =
-    own_times c.args.kind c.args.in_range c.args.addr c.args.bytes.now c.args.bytes_held.now c.if-addr-ge2304.true c.if-addr-bytes-le2336.true
 
 pub loop-row-preserved : goal.loop-row-preserved
 loop-row-preserved c =
