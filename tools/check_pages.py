@@ -3,9 +3,10 @@
 
 check_pages.py
 
-Every crate of crates.txt has a page and a place on the map, and every page of a crate is of one that is listed. Each example on it stands, line for line, in the file
-that is named above it. Each clause that a table of a crate's page names, or that docs/PROVED.md names, stands in that crate's code, and so does
-each call; those that the README names stand in one. Each link of the pages leads to a file, and each anchor to a heading. Whether a clause says what the page says of it, a reader has to judge.
+Every crate of crates.txt has a page and a place on the map, and every page of a crate is of one that is listed. Each example on it stands, line for
+line, in the file that is named above it. Each clause that a table of a crate's page names, or that docs/PROVED.md names, stands in that crate's code,
+and so does each call; those that the README names stand in one. Each file that a page names is there, each link leads to a file, and each anchor to a
+heading. Whether a clause says what the page says of it, a reader has to judge.
 """
 import pathlib, re, sys
 
@@ -74,6 +75,19 @@ def check_sentences(page, text):
                 complain(page, f'no crate has {call} with {clauses}')
 
 
+def check_files(page, text):
+    """Each file that is named in backticks is there: one of definitions in the crate that is named with it, or else in some crate."""
+    for name in re.findall(r'`([\w./-]+/[\w.-]+\.\w+)`', text):
+        if re.search(r'\b(NAME|CRATE|FILE)\b', name):
+            continue
+        places = [HERE, HERE / 'crates', page.parent, *(HERE / 'crates').iterdir()]
+        if not any((place / name).exists() for place in places):
+            complain(page, f'there is no file {name}')
+    for name in re.findall(r'`(\w+\.(?:antt|rt))`', text):
+        if not any(HERE.glob(f'crates/*/*/{name}')):
+            complain(page, f'no crate has a file {name}')
+
+
 def anchor(heading):
     return re.sub(r'[^\w\- ]', '', heading.lower()).replace(' ', '-')
 
@@ -115,6 +129,7 @@ def main():
     check_sentences(HERE / 'README.md', (HERE / 'README.md').read_text())
     for page in filter(pathlib.Path.exists, PAGES):
         check_links(page, page.read_text())
+        check_files(page, page.read_text())
     print(*wrong, sep='\n', file=sys.stderr)
     print(f'check_pages: {len(listed)} crates, {len(wrong)} wrong')
     return 1 if wrong else 0
