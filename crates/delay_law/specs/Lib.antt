@@ -1,0 +1,4 @@
+pub mod Resting
+pub mod HeldTimes
+pub mod ToldTimes
+pub mod NearDelays
