@@ -1,14 +1,3 @@
-pub mod Resting
-pub mod Far
-pub mod Passing
-pub mod LatchFrames
-pub mod Stepping
-pub mod Places
-pub mod Told
-pub mod Measuring
-pub mod Frames
-pub mod Runs
-pub mod Ended
 pub mod Readings
 pub mod Near
 pub mod Staying

@@ -21,46 +21,71 @@ use Rattle.honest_runs.proofs.Delays.{delays_whole}
 use Rattle.delay_law.specs.NearDelays.{AreNear}
 use Rattle.delay_law.proofs.Near.{commissioned_near}
 
--- the commissioning of a later phase that ended with Ok
+some_same : {X : Type 0} {x y : X} → Some x ≡ Some y → x ≡ y
+some_same e = cc
+
+-- the commissioning of a run, which went well where the run did
 record Behind (s : SegmentValue) (run : RunEnd) : Type 0 where
   first : RunEnd
   is : commissioned s ≡ Some first
-  ok : first.answer ≡ Ok tt
+  ok : run.answer ≡ Ok tt → first.answer ≡ Ok tt
   more : List Exchange
   all : run.exchanges ≡ first.exchanges ++ more
 
--- a call that ended with Ok followed a phase that did
-abbrev IsBehind : SegmentValue → Option RunEnd → Type 0
-IsBehind s o = (run : RunEnd) → o ≡ Some run → run.answer ≡ Ok tt → Behind s run
+abbrev AreBehind : SegmentValue → Option RunEnd → Type 0
+AreBehind s o = (run : RunEnd) → o ≡ Some run → Behind s run
 
+-- a call follows a phase that ended with Ok; after a refusal none does
 module _ (s : SegmentValue) (call : Call) where
-  called : (first run : RunEnd) → Behind s first → call_run s call first.exchanges first.state ≡ Some run → Behind s run
-  called first run b is =
-      let d = driven segment_step (script (master_of s) call) turns first.exchanges first.state run is in
-      record { first = b.first; is = b.is; ok = b.ok; more = b.more ++ d.more; all = d.all ∙ ap (λ es. es ++ d.more) b.all ∙ append_assoc b.first.exchanges b.more d.more }
+  called : (last run : RunEnd) → last.answer ≡ Ok tt → Behind s last → call_run s call last.exchanges last.state ≡ Some run → Behind s run
+  called last run fine b is =
+      let d = driven segment_step (script (master_of s) call) turns last.exchanges last.state run is in
+      record {
+        first = b.first;
+        is = b.is;
+        ok = λ e. b.ok fine;
+        more = b.more ++ d.more;
+        all = d.all ∙ ap (λ es. es ++ d.more) b.all ∙ append_assoc b.first.exchanges b.more d.more;
+      }
 
-  next : (first run : RunEnd) (answer : Answer) → first.answer ≡ answer → IsBehind s (Some first) → next_call s call first answer ≡ Some run → run.answer ≡ Ok tt → Behind s run
-  next first run (Ok tt) e before is ok = called first run (before first refl e) is
-  next first run (Err x) e before is ok = absurd (let same : first ≡ run = cc in let no : Err x ≡ Ok tt = sym e ∙ ap (λ (r : RunEnd). r.answer) same ∙ ok in cc)
+  next : (last run : RunEnd) (answer : Answer) → last.answer ≡ answer → Behind s last → next_call s call last answer ≡ Some run → Behind s run
+  next last run (Ok tt) fine b is = called last run fine b is
+  next last run (Err x) refused b is = subst (Behind s) (some_same is) b
 
-  followed : (o : Option RunEnd) → IsBehind s o → IsBehind s (followed_by call s o)
-  followed None before run is ok = absurd (let x = is in cc)
-  followed (Some first) before run is ok = next first run first.answer refl before is ok
+  followed : (o : Option RunEnd) → AreBehind s o → AreBehind s (followed_by call s o)
+  followed None before run is = absurd (let x = is in cc)
+  followed (Some last) before run is = next last run last.answer refl (before last refl) is
 
-commissioned_first : (s : SegmentValue) → IsBehind s (commissioned s)
-commissioned_first s run is ok = record { first = run; is = is; ok = ok; more = []; all = sym (append-nil run.exchanges) }
+commissioned_first : (s : SegmentValue) → AreBehind s (commissioned s)
+commissioned_first s run is = record { first = run; is = is; ok = λ e. e; more = []; all = sym (append-nil run.exchanges) }
 
-settled_first : (s : SegmentValue) → IsBehind s (settled s)
+settled_first : (s : SegmentValue) → AreBehind s (settled s)
 unfolding settled
 settled_first s = followed s Settle (commissioned s) (commissioned_first s)
 
-armed_first : (s : SegmentValue) → IsBehind s (armed s)
+armed_first : (s : SegmentValue) → AreBehind s (armed s)
 unfolding armed
 armed_first s = followed s Arm (settled s) (settled_first s)
 
-ran_first : (s : SegmentValue) → IsBehind s (ran s)
+ran_first : (s : SegmentValue) → AreBehind s (ran s)
 unfolding ran
 ran_first s = followed s (Run (frames_given s)) (armed s) (armed_first s)
+
+-- behind its last phase a run makes no exchange
+rounded : (s : SegmentValue) (r : RunEnd) (answer : Answer) → ((rounded_off s r answer).answer ≡ r.answer) × ((rounded_off s r answer).exchanges ≡ r.exchanges)
+rounded s r (Ok tt) = (refl, refl)
+rounded s r (Err e) = (refl, refl)
+
+behind_last : (s : SegmentValue) (o : Option RunEnd) → AreBehind s o → AreBehind s (option_map (λ r. rounded_off s r r.answer) o)
+behind_last s None before run is = absurd (let x = is in cc)
+behind_last s (Some r) before run is =
+    let b = before r refl in
+    let at = rounded s r r.answer in
+    subst (Behind s) (some_same is) (record { first = b.first; is = b.is; ok = λ e. b.ok (sym at.0 ∙ e); more = b.more; all = at.1 ∙ b.all })
+
+whole_first : (s : SegmentValue) → AreBehind s (run_of s)
+unfolding run_of
+whole_first s = behind_last s (ran s) (ran_first s)
 
 -- delays are kept alike, whatever `run` is given
 same_delays : (cfg : ConfigValue) (frames : Option ℕ) (es : List Exchange) → (kept_after cfg frames es).delays ≡ (kept_after cfg None es).delays
@@ -74,31 +99,23 @@ some_delays s first legal is ok none =
     ap (λ ds. length (map is_some ds)) (sym none) ∙ ap length (delays_whole s legal first is ok) ∙ length-map (order (tree_rows s.rows)) (clock_at s.rows) ∙ order_many s legal in
     omega (arith, n, some)
 
-pub ran_near : (s : SegmentValue) (run : RunEnd) → IsLegal s → ran s ≡ Some run → run.answer ≡ Ok tt → AreNear s (master_after s (Some (frames_given s)) run.exchanges).delays
-ran_near s run legal is ok =
+near_behind : (s : SegmentValue) (run : RunEnd) (frames : Option ℕ) → IsLegal s → (b : Behind s run) → b.first.answer ≡ Ok tt → AreNear s (master_after s frames run.exchanges).delays
+near_behind s run frames legal b fine =
     let cfg = master_of s in
-    let frames = Some (frames_given s) in
-    let b = ran_first s run is ok in
     let stays = stays_kept cfg frames b.first.exchanges b.more (some_kinds s legal) in
     let alike = same_delays cfg frames b.first.exchanges in
     let same : (master_after s frames run.exchanges).delays ≡ (master_after s None b.first.exchanges).delays =
-    ap (λ es. (kept_after cfg frames es).delays) b.all ∙ stays.delays (λ none. some_delays s b.first legal b.is b.ok (sym alike ∙ none)) ∙ alike in
-    subst (AreNear s) (sym same) (commissioned_near s legal b.first b.is b.ok)
+    ap (λ es. (kept_after cfg frames es).delays) b.all ∙ stays.delays (λ none. some_delays s b.first legal b.is fine (sym alike ∙ none)) ∙ alike in
+    subst (AreNear s) (sym same) (commissioned_near s legal b.first b.is fine)
 
--- the whole run has the answer and the exchanges of its last phase
-rounded : (s : SegmentValue) (r : RunEnd) (answer : Answer) → ((rounded_off s r answer).answer ≡ r.answer) × ((rounded_off s r answer).exchanges ≡ r.exchanges)
-rounded s r (Ok tt) = (refl, refl)
-rounded s r (Err e) = (refl, refl)
+-- once commissioning has ended with Ok, whatever comes later
+pub later_near : (s : SegmentValue) (first run : RunEnd) (frames : Option ℕ) → IsLegal s → commissioned s ≡ Some first → first.answer ≡ Ok tt → run_of s ≡ Some run
+    → AreNear s (master_after s frames run.exchanges).delays
+later_near s first run frames legal first_is fine is =
+    let b = whole_first s run is in
+    let same : first ≡ b.first = some_same (sym first_is ∙ b.is) in
+    near_behind s run frames legal b (ap (λ (r : RunEnd). r.answer) (sym same) ∙ fine)
 
-whole_by : (s : SegmentValue) (o : Option RunEnd) (run : RunEnd) → ((r : RunEnd) → o ≡ Some r → r.answer ≡ Ok tt → AreNear s (master_after s (Some (frames_given s)) r.exchanges).delays)
-    → option_map (λ r. rounded_off s r r.answer) o ≡ Some run → run.answer ≡ Ok tt → AreNear s (master_after s (Some (frames_given s)) run.exchanges).delays
-whole_by s None run each is ok = absurd (let x = is in cc)
-whole_by s (Some r) run each is ok =
-    let same : rounded_off s r r.answer ≡ run = cc in
-    let at = rounded s r r.answer in
-    subst (λ es. AreNear s (master_after s (Some (frames_given s)) es).delays) (sym at.1 ∙ ap (λ (x : RunEnd). x.exchanges) same)
-    (each r refl (sym at.0 ∙ ap (λ (x : RunEnd). x.answer) same ∙ ok))
-
-pub whole_near : (s : SegmentValue) (run : RunEnd) → IsLegal s → run_of s ≡ Some run → run.answer ≡ Ok tt → AreNear s (master_after s (Some (frames_given s)) run.exchanges).delays
-unfolding run_of
-whole_near s run legal is ok = whole_by s (ran s) run (λ r at fine. ran_near s r legal at fine) is ok
+-- so where the whole run does
+pub whole_near : (s : SegmentValue) (run : RunEnd) (frames : Option ℕ) → IsLegal s → run_of s ≡ Some run → run.answer ≡ Ok tt → AreNear s (master_after s frames run.exchanges).delays
+whole_near s run frames legal is fine = let b = whole_first s run is in near_behind s run frames legal b (b.ok fine)

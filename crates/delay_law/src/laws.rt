@@ -1,37 +1,16 @@
 //! Laws over the definitions alone, for proofs of the layers above. They speak of any legal segment.
 
-ghost use Rattle.std.specs.Prelude.{◌≡◌, ℕ, ◌*◌, Some, None, Ok};
-ghost use Rattle.dc_bounds.specs.LockNumbers.{period_fs};
-ghost use Rattle.master_script.specs.Progress.{progress};
+ghost use Rattle.std.specs.Prelude.{◌≡◌, ℕ, Option, Some, None, Ok};
 ghost use Rattle.segment_file.specs.Segment.{SegmentValue};
 ghost use Rattle.segment_file.specs.Legal.{IsLegal};
-ghost use Rattle.segment_start.specs.Start.{started_segment};
-ghost use Rattle.run_of_file.specs.MasterOfFile.{master_of};
-ghost use Rattle.run_of_file.specs.RunOfFile.{RunEnd, commissioned, frames_given, master_after, ran, run_of};
-ghost use Rattle.delay_law.specs.Resting.{AllRest};
-ghost use Rattle.delay_law.specs.HeldTimes.{AllHold};
-ghost use Rattle.delay_law.specs.ToldTimes.{AreTold};
+ghost use Rattle.run_of_file.specs.RunOfFile.{RunEnd, commissioned, master_after, run_of};
 ghost use Rattle.delay_law.specs.NearDelays.{AreNear};
 
-/// Until commissioning ends, with Ok or refused, no clock has anything to correct: each counts 10 ns a tick from its start.
-pub fn clocks_rest()
-    ensures start { (s : SegmentValue) → IsLegal s → AllRest s (started_segment s).slaves }
-    ensures commissioned { (s : SegmentValue) (run : RunEnd) → IsLegal s → commissioned s ≡ Some run → AllRest s run.state.slaves }
-{}
-
-/// Where commissioning ends with Ok, every measuring slave holds what its clock showed at the visits of the Latch that came
-/// back, whichever tries were lost before and after it; and so the master was told. That Latch was sent at its number times
-/// the frame period.
-pub fn times_of_the_latch()
-    ensures held { (s : SegmentValue) (run : RunEnd) → IsLegal s → commissioned s ≡ Some run → run.answer ≡ Ok tt
-        → AllHold s ((progress (master_of s) run.exchanges).words.latched * period_fs s.head.frame_ns) run.state.slaves }
-    ensures told { (s : SegmentValue) (run : RunEnd) → IsLegal s → commissioned s ≡ Some run → run.answer ≡ Ok tt
-        → AreTold s ((progress (master_of s) run.exchanges).words.latched * period_fs s.head.frame_ns) (progress (master_of s) run.exchanges).words.latches }
-{}
-
-/// So each measured delay lies within the delay bound of the true one, behind commissioning and to the end of the run.
+/// Once commissioning has ended with Ok, each measured delay lies within the delay bound of the true one: behind it, and at the
+/// end of the run, however that ends.
 pub fn delays_are_near()
     ensures commissioned { (s : SegmentValue) (run : RunEnd) → IsLegal s → commissioned s ≡ Some run → run.answer ≡ Ok tt → AreNear s (master_after s None run.exchanges).delays }
-    ensures ran { (s : SegmentValue) (run : RunEnd) → IsLegal s → ran s ≡ Some run → run.answer ≡ Ok tt → AreNear s (master_after s (Some (frames_given s)) run.exchanges).delays }
-    ensures whole { (s : SegmentValue) (run : RunEnd) → IsLegal s → run_of s ≡ Some run → run.answer ≡ Ok tt → AreNear s (master_after s (Some (frames_given s)) run.exchanges).delays }
+    ensures later { (s : SegmentValue) (first run : RunEnd) (frames : Option ℕ) → IsLegal s → commissioned s ≡ Some first → first.answer ≡ Ok tt → run_of s ≡ Some run
+        → AreNear s (master_after s frames run.exchanges).delays }
+    ensures whole { (s : SegmentValue) (run : RunEnd) (frames : Option ℕ) → IsLegal s → run_of s ≡ Some run → run.answer ≡ Ok tt → AreNear s (master_after s frames run.exchanges).delays }
 {}

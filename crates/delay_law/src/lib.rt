@@ -1,9 +1,8 @@
-//! What a master measures in the run of a legal file, and how near its delays are to the true ones. There is nothing to run here.
+//! How near the delays that a master measures in the run of a legal file are to the true ones. There is nothing to run here.
 //!
-//! Until commissioning ends no clock receives a difference, so each counts 10 ns a tick from its start. The receive times
-//! (ESC data sheet, 0x0900 to 0x090F and 0x0918) that the Latch frame leaves are readings of such clocks at the instants at
-//! which the frame visits the slaves, whichever tries were lost before and after it. So the measured delays lie within the
-//! delay bound of the true ones.
+//! The receive times that the master is told (`latch_times`) are readings of clocks that count 10 ns a tick, at the instants
+//! of the path sums. So by the laws on readings (`clock_latches`, `dc_delay`) each measured delay lies within the delay bound
+//! of the true one.
 #![tactic(auto)]
 
 pub mod laws;

@@ -20,10 +20,10 @@ use Rattle.honest_runs.specs.Progressing.{IsLate}
 use Rattle.honest_runs.proofs.Positions.{row_has}
 use Rattle.run_of_file.specs.MasterOfFile.{master_of}
 use Rattle.run_of_file.specs.RunOfFile.{RunEnd, commissioned, turns}
-use Rattle.delay_law.specs.HeldTimes.{AllHold}
-use Rattle.delay_law.specs.ToldTimes.{AreTold, TellsTimes}
-use Rattle.delay_law.proofs.Measuring.{IsLatched, IsMeasuring, IsToldBy, IsUnjudged, reading_steps}
-use Rattle.delay_law.proofs.Runs.{IsHonestHere, IsOnWay, first_clock, late_of, starts, walk}
+use Rattle.latch_times.specs.HeldTimes.{AllHold}
+use Rattle.latch_times.specs.ToldTimes.{AreTold, TellsTimes}
+use Rattle.latch_times.proofs.Measuring.{IsLatched, IsMeasuring, IsToldBy, IsUnjudged, reading_steps}
+use Rattle.latch_times.proofs.Runs.{IsHonestHere, IsOnWay, first_clock, late_of, starts, walk}
 
 -- a commissioning, whether it ended with Ok or was refused
 pub way_of : (s : SegmentValue) (legal : IsLegal s) (run : RunEnd) → commissioned s ≡ Some run → IsOnWay s legal run.exchanges run.state

@@ -18,13 +18,13 @@ use Rattle.honest_replies.proofs.ByKind.{latch_for_measuring}
 use Rattle.honest_runs.specs.FileSlaves.{kind_at}
 use Rattle.honest_runs.proofs.Returning.{CameBack}
 use Rattle.named_slaves.proofs.Frames.{low_where}
-use Rattle.delay_law.specs.Resting.{AllRest, Rests, row_there}
-use Rattle.delay_law.specs.HeldTimes.{AllHold, HoldsTimes}
-use Rattle.delay_law.proofs.Far.{AreFar, far_behind, far_left}
-use Rattle.delay_law.proofs.LatchFrames.{latch_frame}
-use Rattle.delay_law.proofs.Passing.{Resting, holds_latched, holds_passed, rests_passed}
-use Rattle.delay_law.proofs.Places.{IsFixed, keeps_there, kind_there, measures_there, none_stays, turn_there}
-use Rattle.delay_law.proofs.Stepping.{AtEach, early_at, each_after, sizes_of, sound_at}
+use Rattle.latch_times.specs.Resting.{AllRest, Rests, row_there}
+use Rattle.latch_times.specs.HeldTimes.{AllHold, HoldsTimes}
+use Rattle.latch_times.proofs.Far.{AreFar, far_behind, far_left}
+use Rattle.latch_times.proofs.LatchFrames.{latch_frame}
+use Rattle.latch_times.proofs.Passing.{Resting, holds_latched, holds_passed, rests_passed}
+use Rattle.latch_times.proofs.Places.{IsFixed, keeps_there, kind_there, measures_there, none_stays, turn_there}
+use Rattle.latch_times.proofs.Stepping.{AtEach, early_at, each_after, sizes_of, sound_at}
 
 -- where there is no clock, nothing is said
 none_says : (P : Timing → Type 0) (o : Option Timing) → o ≡ None → IfSome o P

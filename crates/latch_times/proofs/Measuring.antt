@@ -24,9 +24,9 @@ use Rattle.honest_replies.specs.Told.{words_of}
 use Rattle.honest_replies.proofs.ByKind.{measuring_word}
 use Rattle.honest_replies.proofs.Numbers.{flagged, words_many}
 use Rattle.honest_runs.specs.FileSlaves.{kind_at, status_at}
-use Rattle.delay_law.specs.HeldTimes.{AllHold}
-use Rattle.delay_law.specs.ToldTimes.{TellsTimes}
-use Rattle.delay_law.proofs.Far.{IsReading}
+use Rattle.latch_times.specs.HeldTimes.{AllHold}
+use Rattle.latch_times.specs.ToldTimes.{TellsTimes}
+use Rattle.latch_times.proofs.Far.{IsReading}
 
 -- up to the judgement
 abbrev pub IsFirst : Step → Type 0

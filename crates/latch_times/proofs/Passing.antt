@@ -23,9 +23,9 @@ use Rattle.visit_laws.specs.Rest.{AreResets}
 use Rattle.visit_laws.proofs.Latching.{quiet_passed}
 use Rattle.visit_laws.proofs.Ports.{goes_behind, latched_passed}
 use Rattle.visit_laws.proofs.Resting.{resets_passed}
-use Rattle.delay_law.specs.Resting.{Rests, shown_at}
-use Rattle.delay_law.specs.HeldTimes.{HoldsTimes, back_into, port_register}
-use Rattle.delay_law.proofs.Resting.{Counts, counts_at}
+use Rattle.latch_times.specs.Resting.{Rests, shown_at}
+use Rattle.latch_times.specs.HeldTimes.{HoldsTimes, back_into, port_register}
+use Rattle.latch_times.proofs.Resting.{Counts, counts_at}
 
 -- a slave of a row, before a frame that is sent then, whose clock rests
 pub record Resting (row : RowValue) (sent : ℕ) (v : Slave) (m : Timing) : Type 0 where

@@ -24,9 +24,9 @@ use Rattle.frame_pass.specs.SlaveState.{Slave, Timing, Visits, fixed_part, width
 use Rattle.named_slaves.proofs.Frames.{low_where}
 use Rattle.visit_laws.specs.ReceiveTimes.{AreInTurn}
 use Rattle.honest_runs.specs.FileSlaves.{kind_at, row_at}
-use Rattle.delay_law.specs.Resting.{AllRest, Rests, row_there, shown_at}
-use Rattle.delay_law.specs.HeldTimes.{back_into}
-use Rattle.delay_law.proofs.Stepping.{AtEach}
+use Rattle.latch_times.specs.Resting.{AllRest, Rests, row_there, shown_at}
+use Rattle.latch_times.specs.HeldTimes.{back_into}
+use Rattle.latch_times.proofs.Stepping.{AtEach}
 
 some_same : {X : Type 0} {x y : X} → Some x ≡ Some y → x ≡ y
 some_same e = cc

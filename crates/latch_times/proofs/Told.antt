@@ -26,7 +26,7 @@ use Rattle.named_slaves.specs.Standing.{Stands}
 use Rattle.named_slaves.proofs.Answering.{read_there}
 use Rattle.named_slaves.proofs.Frames.{found_standing, low_where}
 use Rattle.honest_replies.specs.Told.{AreInOrder}
-use Rattle.delay_law.specs.HeldTimes.{port_register}
+use Rattle.latch_times.specs.HeldTimes.{port_register}
 use Rattle.honest_replies.proofs.ByKind.{ports_for_measuring}
 
 -- the datagram that reads the receive times of the ports

@@ -6,7 +6,7 @@ use Rattle.dc_delay.specs.declared.latch.Latch.{Latch}
 use Rattle.dc_topology.specs.Listed.{port_number}
 use Rattle.segment_file.specs.Segment.{SegmentValue, measures_at, tree_rows}
 use Rattle.honest_runs.specs.FileSlaves.{row_at}
-use Rattle.delay_law.specs.Resting.{row_there, shown_at}
+use Rattle.latch_times.specs.Resting.{row_there, shown_at}
 
 -- they are what the clock at a position, correcting nothing, showed at the visits of a frame that was sent then
 pub record TellsTimes (s : SegmentValue) (p sent : ℕ) (latch : Latch) : Type 0 where

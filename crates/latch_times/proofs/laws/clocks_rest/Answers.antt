@@ -1,6 +1,6 @@
-use Rattle.delay_law.proofs.Ended.{way_of}
-use Rattle.delay_law.proofs.Places.{rests_first}
-use Rattle.delay_law.proofs.laws.clocks_rest.Goals as goal
+use Rattle.latch_times.proofs.Ended.{way_of}
+use Rattle.latch_times.proofs.Places.{rests_first}
+use Rattle.latch_times.proofs.laws.clocks_rest.Goals as goal
 
 pub returns-clause-start : goal.returns-clause-start
 returns-clause-start c = rests_first
