@@ -1,0 +1,11 @@
+pub mod Resting
+pub mod Far
+pub mod Passing
+pub mod LatchFrames
+pub mod Stepping
+pub mod Places
+pub mod Told
+pub mod Measuring
+pub mod Frames
+pub mod Runs
+pub mod Ended
