@@ -1,0 +1,5 @@
+pub mod OnTheWay
+pub mod AtSlaves
+pub mod States
+pub mod First
+pub mod Bringing

@@ -1,0 +1,4 @@
+pub mod Frames
+pub mod OnTheWay
+pub mod Slaves
+pub mod Runs
