@@ -1,5 +1,5 @@
 -- What a drift frame brings one slave.
-use Rattle.std.proofs.Common.{◌≡◌, ◌≢◌, ℕ, ◌+◌, ◌<◌, ◌≤◌, ◌%◌, ◌^◌, ◌==◌, Bool, true, false, List, [], ◌∷◌, ◌++◌, length, Some, inl, inr, refl, sym, ap, ap₂, subst, ◌∙◌, eq-eqb, arith}
+use Rattle.std.proofs.Common.{◌≡◌, ◌≢◌, ℕ, ◌+◌, ◌<◌, ◌≤◌, ◌==◌, Bool, true, false, List, [], ◌∷◌, length, Some, refl, sym, ap, ap₂, subst, ◌∙◌, eq-eqb, arith}
 use Rattle.std.specs.Prelude.{nat_lt, not, slice_get}
 use Rattle.std.proofs.lemmas.Bool.Decides.{nat_tests}
 use Rattle.drift_writes.proofs.OnTheWay.{left_none}
@@ -15,14 +15,13 @@ use Rattle.frame_pass.specs.FramePass.{at_arrival, datagrams_behind}
 use Rattle.frame_pass.specs.SlaveState.{Slave, Timing, station}
 use Rattle.honest_replies.specs.Told.{AreInOrder}
 use Rattle.honest_replies.proofs.ByKind.{time_for_clocks}
-use Rattle.local_clock.specs.Reading.{Happening}
 use Rattle.master_script.specs.Frames.{drift_datagram}
 use Rattle.named_slaves.specs.Standing.{Stands, own_address}
 use Rattle.named_slaves.proofs.Frames.{low_where}
 use Rattle.segment_shape.specs.Slaves.{has_clock}
 use Rattle.visit_laws.specs.Aside.{HaveSize}
-use Rattle.visit_laws.specs.Drift.{AreOthersThan, Brings, IsDrift, IsOther, first_behind, time_in}
-use Rattle.visit_laws.proofs.Drifting.{GoesOn, behind_others, carried, events_first, frame_addressed, frame_receives, left_unwritten, passes_refused, quiet_unwritten, same_refusal}
+use Rattle.visit_laws.specs.Drift.{IsDrift, IsOther, first_behind}
+use Rattle.visit_laws.proofs.Drifting.{behind_others, carried, events_first, frame_addressed, frame_receives, passes_refused, quiet_unwritten, same_refusal}
 
 -- the first datagram of the frame
 is_drift : (r : ℕ) → IsDrift (drift_datagram r)

@@ -1,5 +1,5 @@
 -- What the drift frames of a run bring.
-use Rattle.std.proofs.Common.{◌≡◌, ℕ, ◌+◌, ◌<◌, ◌≤◌, true, false, List, [], ◌∷◌, Option, Some, refl, sym, subst, arith}
+use Rattle.std.proofs.Common.{◌≡◌, ℕ, ◌<◌, ◌≤◌, true, false, [], ◌∷◌, Option, Some, refl, subst, arith}
 use Rattle.std.specs.Prelude.{IfSome, slice_get}
 use Rattle.drift_receipts.specs.Receipts.{IsDriftFrame, IsReference, brought, receipt, word_at}
 use Rattle.drift_receipts.proofs.AtSlaves.{clock_receives, other_rests, reference_rests}
@@ -11,7 +11,7 @@ use Rattle.frame_pass.specs.SegmentState.{SegmentState, leaves_at}
 use Rattle.frame_pass.specs.SlaveState.{Slave, Timing}
 use Rattle.honest_runs.specs.FileSlaves.{kind_at, status_at}
 use Rattle.segment_file.specs.Legal.{IsLegal}
-use Rattle.segment_file.specs.Segment.{SegmentValue, tree_rows}
+use Rattle.segment_file.specs.Segment.{SegmentValue}
 use Rattle.segment_file.proofs.LegalLemmas.{legal_reference}
 use Rattle.segment_shape.specs.Slaves.{has_clock}
 

@@ -1,5 +1,5 @@
 -- The datagrams of a drift frame on its way: the first, and those behind it.
-use Rattle.std.proofs.Common.{◌≡◌, ℕ, zero, suc, ◌+◌, List, [], ◌∷◌, length, inl, inr, refl, sym, ap, ◌∙◌, arith}
+use Rattle.std.proofs.Common.{◌≡◌, ℕ, zero, suc, ◌+◌, List, [], ◌∷◌, length, inr, refl, ◌∙◌, arith}
 use Rattle.drift_writes.specs.Untouched.{WriteNone}
 use Rattle.drift_writes.proofs.OnTheWay.{datagrams_none}
 use Rattle.ecat_frame.specs.FrameGrammar.{DatagramValue}
@@ -7,7 +7,6 @@ use Rattle.frame_pass.specs.DatagramAtSlave.{datagram_after, slave_after}
 use Rattle.frame_pass.specs.FramePass.{at_arrival, datagrams_after, datagrams_behind, datagrams_passed}
 use Rattle.frame_pass.specs.SegmentState.{phase_of}
 use Rattle.frame_pass.specs.SlaveState.{Slave}
-use Rattle.frame_pass.proofs.Sizes.{HasSize}
 use Rattle.master_script.specs.Config.{ConfigValue}
 use Rattle.master_script.specs.Frames.{drift_datagram}
 use Rattle.master_script.specs.Steps.{datagrams_of}

@@ -1,5 +1,5 @@
 -- Which places the frames of a script leave.
-use Rattle.std.proofs.Common.{◌≡◌, ℕ, ◌+◌, ◌≤◌, Bool, true, false, [], ◌∷◌, length, inl, inr, ◌⊎◌, arith}
+use Rattle.std.proofs.Common.{◌≡◌, ℕ, ◌+◌, ◌≤◌, Bool, true, false, length, inl, inr, arith}
 use Rattle.byteorder.specs.Endian.{little_bytes}
 use Rattle.esc_regs.specs.RegisterBytes.{AreApart}
 use Rattle.drift_writes.specs.Untouched.{IsUntouched, WriteNone}

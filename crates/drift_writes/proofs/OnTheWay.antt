@@ -1,5 +1,5 @@
 -- Datagrams for which no slave writes a place stay so on their way, and each slave leaves it.
-use Rattle.std.proofs.Common.{◌≡◌, ℕ, zero, suc, ◌+◌, true, List, [], ◌∷◌, length, inl, inr, ◌⊎◌, sym, refl}
+use Rattle.std.proofs.Common.{◌≡◌, ℕ, zero, suc, ◌+◌, List, [], ◌∷◌, inl, inr, sym, refl}
 use Rattle.drift_writes.specs.Untouched.{WriteNone, WritesNone}
 use Rattle.ecat_frame.specs.FrameGrammar.{DatagramValue}
 use Rattle.esc_regs.specs.RegisterBytes.{AreApart}

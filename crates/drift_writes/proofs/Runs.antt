@@ -1,5 +1,5 @@
 -- Behind commissioning the slaves hold what they held.
-use Rattle.std.proofs.Common.{◌≡◌, ℕ, ◌+◌, ◌<◌, List, [], ◌∷◌, ◌++◌, length, Some, inl, inr, refl, sym, ap, subst, ◌∙◌, arith}
+use Rattle.std.proofs.Common.{◌≡◌, ℕ, ◌+◌, ◌<◌, List, [], ◌∷◌, ◌++◌, length, Some, inl, sym, ap, subst, ◌∙◌, arith}
 use Rattle.std.specs.List.{AllByRecursion}
 use Rattle.drift_writes.specs.Untouched.{HoldAlike, IsUntouched}
 use Rattle.drift_writes.proofs.Frames.{drift_step, times_untouched}
@@ -7,7 +7,6 @@ use Rattle.drift_writes.proofs.Slaves.{IsHeldOn, IsQuiet, frames_hold}
 use Rattle.ecat_frame.specs.FrameGrammar.{DatagramValue, FrameValue}
 use Rattle.ecat_link.specs.Exchanges.{Exchange}
 use Rattle.ecat_link.specs.Serves.{Send}
-use Rattle.frame_pass.specs.Invariants.{IsSoundSegment}
 use Rattle.frame_pass.specs.SegmentState.{phase_of}
 use Rattle.honest_runs.proofs.Turning.{sent_by}
 use Rattle.master_script.specs.Config.{ConfigValue}

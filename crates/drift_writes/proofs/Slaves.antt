@@ -1,5 +1,5 @@
 -- A frame that does not write a place leaves what the slaves hold there.
-use Rattle.std.proofs.Common.{◌≡◌, ℕ, zero, suc, ◌+◌, ◌<◌, List, [], ◌∷◌, length, Option, Some, inl, inr, refl, sym, ap, subst, ◌∙◌, arith}
+use Rattle.std.proofs.Common.{◌≡◌, ℕ, zero, suc, ◌+◌, List, [], ◌∷◌, Option, Some, inl, inr, sym, ap, subst, ◌∙◌, arith}
 use Rattle.std.specs.Prelude.{slice_get}
 use Rattle.std.specs.List.{AllByRecursion}
 use Rattle.std.proofs.lemmas.Bool.{cases_lt}
@@ -7,7 +7,7 @@ use Rattle.drift_writes.specs.Untouched.{HoldAlike, WriteNone}
 use Rattle.drift_writes.proofs.OnTheWay.{behind_none, left_none}
 use Rattle.ecat_frame.specs.FrameGrammar.{DatagramValue, FrameValue}
 use Rattle.ecat_link.specs.Exchanges.{Exchange, Runs}
-use Rattle.frame_pass.specs.FramePass.{are_latching, at_arrival, datagrams_behind, end_of, slave_passed}
+use Rattle.frame_pass.specs.FramePass.{at_arrival, datagrams_behind, end_of, slave_passed}
 use Rattle.frame_pass.specs.Invariants.{IsSound, IsSoundSegment}
 use Rattle.frame_pass.specs.PlainRegisters.{AreLeft, IsPlain}
 use Rattle.frame_pass.specs.Reach.{reach_of}
