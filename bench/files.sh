@@ -3,12 +3,7 @@
 # each. files.sh OTHER times another `dc`, given by its path, beside it, by turns, and sees that both write the same. The least of five counts
 # (`by_turns.py`).
 set -eu
-here=$(cd "$(dirname "${BASH_SOURCE[0]}")" && pwd)
-program=$here/../crates/dc_cli/out/dc_cli
-[ -x "$program" ] || { echo "bench: .ci/run leaves the proved program that this measures" >&2; exit 1; }
-command -v python3 > /dev/null || { echo "bench: python3 takes the times" >&2; exit 1; }
-folder=$(mktemp -d)
-trap 'rm -rf "$folder"' EXIT
+. "$(dirname "${BASH_SOURCE[0]}")/head.sh"
 
 awk 'BEGIN {
     printf "{\"version\":2,\"ppm\":50,\"frame_ns\":1000000,\"speed\":4096,\"loss_run\":2,\"epoch_ns\":800000000000000000,\"cycle_ns\":1000000,\"cycles\":4,\"slaves\":["

@@ -3,12 +3,7 @@
 # phase; two slaves with 200,000 edges and their rows. run.sh OTHER times another `dc`, given by its path, beside it, by turns, and sees
 # that both write the same. The least of five counts (`by_turns.py`).
 set -eu
-here=$(cd "$(dirname "${BASH_SOURCE[0]}")" && pwd)
-program=$here/../crates/dc_cli/out/dc_cli
-[ -x "$program" ] || { echo "bench: .ci/run leaves the proved program that this measures" >&2; exit 1; }
-command -v python3 > /dev/null || { echo "bench: python3 takes the times" >&2; exit 1; }
-folder=$(mktemp -d)
-trap 'rm -rf "$folder"' EXIT
+. "$(dirname "${BASH_SOURCE[0]}")/head.sh"
 
 # segment CLOCKS CYCLES CYCLE_NS [SYNC1]: a line of clocks of both widths
 segment() {

@@ -91,3 +91,37 @@ within number m (x ∷ xs) low =
     let here = with_within number m x xs (λ y has. low x y (0, omega arith, refl) (suc has.0, omega (arith, has.1), has.2)) in
     let rest = within number m xs (λ y z has too. low y z (suc has.0, omega (arith, has.1), has.2) (suc too.0, omega (arith, too.1), too.2)) in
     omega (arith, here, rest)
+
+-- a greatest number above 0 is that of two elements
+with_more : {X : Type 0} (number : X → X → ℕ) (a b : X) (bs : List X)
+    → (0 < greatest_with number a bs → (c : X) × Contains bs c × (number a c ≡ greatest_with number a bs))
+    → (greatest_with number a bs < number a b) ⊎ (number a b ≤ greatest_with number a bs) → 0 < greatest_with number a (b ∷ bs)
+    → (c : X) × Contains (b ∷ bs) c × (number a c ≡ greatest_with number a (b ∷ bs))
+unfolding greatest_with
+with_more number a b bs rest (inl low) some = (b, (0, omega arith, refl), omega (arith, low))
+with_more number a b bs rest (inr high) some =
+    let r = rest (omega (arith, some, high)) in
+    (r.0, (suc r.1.0, omega (arith, r.1.1), r.1.2), omega (arith, r.2, high))
+
+with_reached : {X : Type 0} (number : X → X → ℕ) (a : X) (bs : List X) → 0 < greatest_with number a bs → (b : X) × Contains bs b × (number a b ≡ greatest_with number a bs)
+unfolding greatest_with
+with_reached number a [] some = absurd (omega (arith, some))
+with_reached number a (b ∷ bs) some = with_more number a b bs (with_reached number a bs) (cases_lt (greatest_with number a bs) (number a b)) some
+
+more : {X : Type 0} (number : X → X → ℕ) (x : X) (xs : List X)
+    → (0 < greatest number xs → (a : X) × (b : X) × Contains xs a × Contains xs b × (number a b ≡ greatest number xs))
+    → (greatest number xs < greatest_with number x xs) ⊎ (greatest_with number x xs ≤ greatest number xs) → 0 < greatest number (x ∷ xs)
+    → (a : X) × (b : X) × Contains (x ∷ xs) a × Contains (x ∷ xs) b × (number a b ≡ greatest number (x ∷ xs))
+unfolding greatest
+more number x xs rest (inl low) some =
+    let r = with_reached number x xs (omega (arith, some, low)) in
+    (x, r.0, (0, omega arith, refl), (suc r.1.0, omega (arith, r.1.1), r.1.2), omega (arith, r.2, low))
+more number x xs rest (inr high) some =
+    let r = rest (omega (arith, some, high)) in
+    (r.0, r.1, (suc r.2.0, omega (arith, r.2.1), r.2.2), (suc r.3.0, omega (arith, r.3.1), r.3.2), omega (arith, r.4, high))
+
+pub reached : {X : Type 0} (number : X → X → ℕ) (xs : List X) → 0 < greatest number xs
+    → (a : X) × (b : X) × Contains xs a × Contains xs b × (number a b ≡ greatest number xs)
+unfolding greatest
+reached number [] some = absurd (omega (arith, some))
+reached number (x ∷ xs) some = more number x xs (reached number xs) (cases_lt (greatest number xs) (greatest_with number x xs)) some

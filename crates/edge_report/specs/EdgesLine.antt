@@ -1,4 +1,5 @@
--- The edges line: how many edges there are, how far two of one index are apart at most, their shifts taken off, and how far they may be.
+-- The edges line: how many edges there are, how far two of one index on two different slaves are apart at
+-- most, their shifts taken off, and how far they may be.
 use Rattle.std.specs.Prelude.{ℕ, List, [], ◌∷◌, ◌++◌, codes, decimal}
 
 -- `edges E spread_fs S window_fs W`

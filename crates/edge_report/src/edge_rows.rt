@@ -135,12 +135,12 @@ fn put_edge<W: Write + Drop>(
     )
 }
 
-// The rows of these edges, in this order.
-fn rows_of(alloc: Global, segment: &Segment, edges: &[SlaveEdge]) -> Result<Vec<u8>, NoMemory>
+// A text and behind it the rows of these edges, in this order.
+fn rows_behind(text: Vec<u8>, segment: &Segment, edges: &[SlaveEdge]) -> Result<Vec<u8>, NoMemory>
     requires { All (IsEdge segment.now) edges.now }
-    ensures { IfOk result (λ v. v.items ≡ header_row ++ flat_map (edge_row segment.now) edges.now) }
+    ensures { IfOk result (λ v. v.items ≡ text.items ++ (header_row ++ flat_map (edge_row segment.now) edges.now)) }
 {
-    let mut writer = WriterBuilder::new().from_writer(Vec::new(alloc));
+    let mut writer = WriterBuilder::new().from_writer(text);
     put_header(&mut writer)?;
     for edge in edges {
         put_edge(&mut writer, segment, edge)?;
@@ -152,11 +152,26 @@ fn rows_of(alloc: Global, segment: &Segment, edges: &[SlaveEdge]) -> Result<Vec<
 }
 
 /// A row for each edge, behind the header `cycle,id,signal,time_fs,shift_ns`: by index, then by position,
-/// SYNC0 before SYNC1. The shift is the total shift of the signal (ns).
+/// SYNC0 before SYNC1. The shift is the total shift of the signal (ns). The edges are as
+/// [`run_summary`](crate::run_summary) wants them.
 pub fn edges_csv(alloc: Global, segment: &Segment, edges: &[SlaveEdge]) -> Result<Vec<u8>, NoMemory>
     requires { AreEdges segment.now edges.now }
     ensures { IfOk result (λ text. text.items ≡ edge_rows segment.now edges.now) }
 {
+    edges_csv_behind(alloc, Vec::new(alloc), segment, edges)
+}
+
+/// A text, and behind it the rows of [`edges_csv`]. They are written there at once, so that memory holds them
+/// only once.
+pub fn edges_csv_behind(
+    alloc: Global,
+    text: Vec<u8>,
+    segment: &Segment,
+    edges: &[SlaveEdge],
+) -> Result<Vec<u8>, NoMemory>
+    requires { AreEdges segment.now edges.now }
+    ensures { IfOk result (λ all. all.items ≡ text.items ++ edge_rows segment.now edges.now) }
+{
     let ordered = in_order(alloc, segment, edges)?;
-    rows_of(alloc, segment, &ordered)
+    rows_behind(text, segment, &ordered)
 }

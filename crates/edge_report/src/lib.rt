@@ -2,7 +2,7 @@
 //! have raised their edges.
 //!
 //! [`delay_table`] is the table of measured delays, [`run_summary`] that of a whole run, and [`edges_csv`]
-//! a row for each edge. Each is a function of the legal segment and of the numbers that a run gave: delays,
+//! a row for each edge, which [`edges_csv_behind`] puts behind another text. Each is a function of the legal segment and of the numbers that a run gave: delays,
 //! counts of frames, the start, the edges. Nothing here knows a frame, a register or a clock; the true
 //! delays and the bounds beside the measured ones are those of `segment_bounds`.
 //!
@@ -23,6 +23,6 @@ mod slaves;
 mod spread;
 mod windows;
 
-pub use edge_rows::edges_csv;
+pub use edge_rows::{edges_csv, edges_csv_behind};
 pub use report::{delay_table, run_summary};
 pub use slave_edge::SlaveEdge;
