@@ -1,7 +1,6 @@
 -- A command is done over an input that nothing stands against, but for want of memory and faults.
 use Rattle.std.proofs.Common.{◌≡◌, ◌∙◌, ℕ, List, [], Option, Some, None, ap, arith, inl, inr, refl, sym, subst}
-use Rattle.std.specs.Prelude.{◌⊎◌, ◌≤◌, length}
-use Rattle.std.specs.Io.KnownBytes.{Keeps}
+use Rattle.std.specs.Prelude.{◌⊎◌}
 use Rattle.dc_bench.specs.BenchState.{BenchState}
 use Rattle.dc_show.proofs.OneAnswer.{text_or_refusal}
 use Rattle.lost_step.specs.LostStep.{lost_step_of}
@@ -10,12 +9,12 @@ use Rattle.segment_file.specs.Told.{IsSegmentText}
 use Rattle.segment_file.specs.declared.seg_error.SegError.TheVariants as error
 use Rattle.segment_file.proofs.AnswerLemmas.{legal_unrefused, one_segment}
 use Rattle.dc_base.specs.Causes.{Rose}
-use Rattle.dc_top.specs.Answers.{Answered, AnsweredAlone, AnsweredIn, AnsweredOver, RefusesBy, RefusesDriven, RefusesFile, input_limit, reading}
-use Rattle.dc_top.specs.Complete.{HasGoodBytes, IsGood, IsLegalFile, IsServable, IsServedBy, RunsThrough}
+use Rattle.dc_top.specs.Answers.{Answered, AnsweredAlone, AnsweredIn, AnsweredOver, RefusesBy, RefusesDriven, RefusesFile, reading}
+use Rattle.dc_top.specs.Complete.{HasGoodBytes, IsGood, IsServable, IsServedBy, RunsThrough}
 use Rattle.dc_top.specs.Runs.{goes_on}
 use Rattle.dc_top.specs.SegFaults.{error_of}
 use Rattle.dc_top.specs.declared.outcome.Outcome.{Outcome}
-use Rattle.dc_top.specs.declared.outcome.Outcome.TheVariants.{Done, Usage, BadText, BadSegment, BadFrame, Lost, ReadFault, WriteFault, NoMemory, TooLong, NotYet}
+use Rattle.dc_top.specs.declared.outcome.Outcome.TheVariants.{Done, Usage, BadText, BadSegment, BadFrame, Lost, ReadFault, WriteFault, NoMemory, TooLong}
 use Rattle.dc_top.specs.declared.reading.InputUse.{InputUse}
 use Rattle.dc_top.specs.declared.reading.InputUse.TheVariants.{WholeInput, NoInput, NotBuilt}
 use Rattle.dc_top.specs.declared.report.Report.{Report}
@@ -23,7 +22,7 @@ use Rattle.dc_top.specs.declared.report.Report.TheVariants as report
 use Rattle.dc_top.specs.declared.seg_fault.SegFault.{SegFault}
 use Rattle.dc_top.specs.declared.seg_fault.SegFault.TheVariants.{Shape, Twice, Tree, Rate, NoReference, Unmeasurable, TooSlow, NoLock, Lead, LossRun, TooMuch}
 use Rattle.dc_words.specs.declared.command.Command.{Command}
-use Rattle.dc_words.specs.declared.command.Command.TheVariants.{Run, Delays, Check, Show, Gen, Drill, Migrate, Trace, Audit, Again, Latch, Rate}
+use Rattle.dc_words.specs.declared.command.Command.TheVariants.{Run, Delays, Check, Show, Gen, Drill, Migrate, Rate}
 
 -- ---- no legal file is refused
 

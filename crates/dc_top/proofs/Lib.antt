@@ -1,4 +1,6 @@
 pub mod Serving
+pub mod Driven
 pub mod Bounded
+pub mod Transmissions
 pub mod Complete
 pub mod Words

@@ -1,5 +1,5 @@
 -- What the answer to a command says of what was written and refused.
-use Rattle.std.proofs.Common.{◌≡◌, ◌∙◌, ℕ, Bool, true, List, Option, Some, None, Ok, Err, ap, refl, sym, subst}
+use Rattle.std.proofs.Common.{◌≡◌, ◌∙◌, ℕ, true, List, Option, Some, None, Ok, Err, ap, refl, sym, subst}
 use Rattle.std.specs.Io.KnownBytes.{Keeps}
 use Rattle.dc_bench.specs.BenchState.{BenchState}
 use Rattle.master_script.specs.declared.step.MasterError.{MasterError}

@@ -19,7 +19,7 @@ use Rattle.dc_top.specs.declared.reading.InputUse.TheVariants.{WholeInput, NoInp
 use Rattle.dc_top.specs.declared.report.Report.{Report}
 use Rattle.dc_top.specs.declared.report.Report.TheVariants as report
 use Rattle.dc_words.specs.declared.command.Command.{Command}
-use Rattle.dc_words.specs.declared.command.Command.TheVariants.{Run, Delays, Check, Show, Gen, Drill, Migrate, Trace, Audit, Again, Latch, Rate}
+use Rattle.dc_words.specs.declared.command.Command.TheVariants.{Run, Delays, Check, Show, Gen, Drill, Migrate}
 use Rattle.dc_top.specs.declared.outcome.Outcome.{Outcome}
 use Rattle.dc_top.specs.declared.outcome.Outcome.TheVariants.{Done, Usage, BadText, BadSegment, BadFrame, Lost, ReadFault, WriteFault, NoMemory, TooLong, NotYet}
 

@@ -6,5 +6,7 @@ pub mod CheckText
 pub mod Runs
 pub mod Written
 pub mod Answers
+pub mod Driven
 pub mod Bounded
+pub mod Transmissions
 pub mod Complete

@@ -5,6 +5,8 @@ ghost use Rattle.dc_base.specs.Told.{Gave};
 ghost use Rattle.dc_top.specs.Answers.{Answered, AnsweredOver, DrivesWire, HasInput, IsInput, ServedBy, Unread, input_limit, reading};
 ghost use Rattle.dc_top.specs.Bounded.{MeasuresNear};
 ghost use Rattle.dc_top.specs.Complete.{IsServable};
+ghost use Rattle.dc_top.specs.Driven.{OfItsRun};
+ghost use Rattle.dc_top.specs.Transmissions.{Sends};
 ghost use Rattle.dc_top.specs.declared.outcome.Outcome.TheVariants.{Done, ReadFault, WriteFault, TooLong, NoMemory};
 ghost use Rattle.dc_top.specs.declared.reading.InputUse.TheVariants.{NoInput, WholeInput};
 ghost use Rattle.dc_words.specs.CommandOfWords.{HasRanges, command_of};
@@ -46,7 +48,8 @@ pub fn dc_main<I: Source, O: Sink>(
         (λ bytes. (result ≡ TooLong) ↔ (input_limit < length bytes)) }
     ensures read_fault { result ≡ ReadFault → Rose (I.faults input.old) (I.faults input.new) }
     ensures write_fault { result ≡ WriteFault → Rose (O.faults output.old) (O.faults output.new) }
-    ensures delay_bound { result ≡ Done → MeasuresNear (command_of (map string_bytes words.now)) (I.left input.old) bench.new }
+    ensures delay_bound { result ≡ Done → OfItsRun MeasuresNear (command_of (map string_bytes words.now)) (I.left input.old) bench.new }
+    ensures transmissions { result ≡ Done → OfItsRun Sends (command_of (map string_bytes words.now)) (I.left input.old) bench.new }
     ensures complete { IsServable (command_of (map string_bytes words.now)) (I.left input.old) → ¬ Rose (I.faults input.old) (I.faults input.new)
         → ¬ Rose (O.faults output.old) (O.faults output.new) → (result ≡ Done) ⊎ (result ≡ NoMemory) }
 {
