@@ -1,1 +1,4 @@
 pub mod Serving
+pub mod Bounded
+pub mod Complete
+pub mod Words

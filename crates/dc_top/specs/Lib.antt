@@ -6,3 +6,5 @@ pub mod CheckText
 pub mod Runs
 pub mod Written
 pub mod Answers
+pub mod Bounded
+pub mod Complete

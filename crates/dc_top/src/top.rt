@@ -1,9 +1,11 @@
 // The top call.
-ghost use Rattle.std.specs.Prelude.{◌≡◌, ◌<◌, ◌≤◌, ◌↔◌, [], map, length, string_bytes, Some, None, Err, IfOk, IfErr};
+ghost use Rattle.std.specs.Prelude.{◌≡◌, ◌⊎◌, ◌<◌, ◌≤◌, ◌↔◌, [], map, length, string_bytes, Some, None, Err, IfOk, IfErr};
 ghost use Rattle.dc_base.specs.Causes.{Rose};
 ghost use Rattle.dc_base.specs.Told.{Gave};
 ghost use Rattle.dc_top.specs.Answers.{Answered, AnsweredOver, DrivesWire, HasInput, IsInput, ServedBy, Unread, input_limit, reading};
-ghost use Rattle.dc_top.specs.declared.outcome.Outcome.TheVariants.{ReadFault, WriteFault, TooLong};
+ghost use Rattle.dc_top.specs.Bounded.{MeasuresNear};
+ghost use Rattle.dc_top.specs.Complete.{IsServable};
+ghost use Rattle.dc_top.specs.declared.outcome.Outcome.TheVariants.{Done, ReadFault, WriteFault, TooLong, NoMemory};
 ghost use Rattle.dc_top.specs.declared.reading.InputUse.TheVariants.{NoInput, WholeInput};
 ghost use Rattle.dc_words.specs.CommandOfWords.{HasRanges, command_of};
 
@@ -44,6 +46,9 @@ pub fn dc_main<I: Source, O: Sink>(
         (λ bytes. (result ≡ TooLong) ↔ (input_limit < length bytes)) }
     ensures read_fault { result ≡ ReadFault → Rose (I.faults input.old) (I.faults input.new) }
     ensures write_fault { result ≡ WriteFault → Rose (O.faults output.old) (O.faults output.new) }
+    ensures delay_bound { result ≡ Done → MeasuresNear (command_of (map string_bytes words.now)) (I.left input.old) bench.new }
+    ensures complete { IsServable (command_of (map string_bytes words.now)) (I.left input.old) → ¬ Rose (I.faults input.old) (I.faults input.new)
+        → ¬ Rose (O.faults output.old) (O.faults output.new) → (result ≡ Done) ⊎ (result ≡ NoMemory) }
 {
     *bench = None;
     let Ok(command) = read_words(alloc, words) else {
