@@ -7,8 +7,8 @@ use dc_bench::Bench;
 use segment_file::Segment;
 use std::alloc::{AllocError, Global};
 
-/// The measured delays by position, None where no clock stands.
-pub(crate) fn delays(
+/// The delays that the master of the bench has measured, by position (ns); None where no clock stands.
+pub fn measured_delays(
     alloc: Global,
     segment: &Segment,
     bench: &Bench,

@@ -25,9 +25,9 @@ fn push_own(list: &mut Vec<SlaveEdge>, position: u16, edges: &[Edge]) -> Result<
     Ok(())
 }
 
-/// All edges that the slaves have kept, in frame order. They are edges of a run: each is of a signal that its slave has by
-/// the file.
-pub(crate) fn edges(
+/// All edges that the slaves of the bench have kept, in frame order. They are edges of a run: each is of a signal that its slave
+/// has by the file.
+pub fn kept_edges(
     alloc: Global,
     segment: &Segment,
     bench: &Bench,

@@ -1,5 +1,4 @@
-ghost use Rattle.std.specs.Prelude.{◌≡◌, ◌++◌, IfOk, OnOk, None, Ok};
-ghost use Rattle.edge_report.specs.EdgeRows.{edge_rows};
+ghost use Rattle.std.specs.Prelude.{◌≡◌, IfOk, None, Ok};
 ghost use Rattle.edge_report.specs.Edges.{AreEdges};
 ghost use Rattle.edge_report.specs.Delays.{AreDelays};
 ghost use Rattle.run_of_file.specs.AtEnd.{IsAtEnd};
@@ -9,11 +8,11 @@ ghost use Rattle.segment_file.specs.Legal.{IsLegal};
 ghost use Rattle.bench_report.specs.Edges.{edges_told};
 ghost use Rattle.bench_report.specs.Reports.{drill_text, report_text, summary_text, table_text};
 
-use crate::delays::delays;
-use crate::edges::edges;
+use crate::delays::measured_delays;
+use crate::edges::kept_edges;
 use dc_base::NoMemory;
 use dc_bench::Bench;
-use edge_report::{SlaveEdge, edges_csv, run_summary};
+use edge_report::{SlaveEdge, edges_csv_behind, run_summary};
 use segment_file::Segment;
 use std::alloc::Global;
 
@@ -24,7 +23,7 @@ pub fn delay_table(alloc: Global, segment: &Segment, bench: &Bench) -> Result<Ve
     requires run { IsAtEnd segment.now None (commissioned segment.now) bench.now.wire bench.now.master (Ok tt) }
     ensures { IfOk result (λ text. text.items ≡ table_text segment.now bench.now) }
 {
-    let Ok(delays) = delays(alloc, segment, bench) else {
+    let Ok(delays) = measured_delays(alloc, segment, bench) else {
         return Err(NoMemory);
     };
     let master = bench.master();
@@ -45,7 +44,7 @@ fn summary(
     requires told { edges.now ≡ edges_told segment.now bench.now.wire }
     ensures { IfOk result (λ text. text.items ≡ summary_text segment.now bench.now slave_lines) }
 {
-    let Ok(delays) = delays(alloc, segment, bench) else {
+    let Ok(delays) = measured_delays(alloc, segment, bench) else {
         return Err(NoMemory);
     };
     let master = bench.master();
@@ -62,23 +61,6 @@ fn summary(
     )
 }
 
-// Puts the rows of these edges behind a text.
-fn push_rows(
-    alloc: Global,
-    text: &mut Vec<u8>,
-    segment: &Segment,
-    edges: &[SlaveEdge],
-) -> Result<(), NoMemory>
-    requires { AreEdges segment.now edges.now }
-    ensures { OnOk result (text.new.items ≡ text.old.items ++ edge_rows segment.now edges.now) }
-{
-    let rows = edges_csv(alloc, segment, edges)?;
-    match text.extend_from_slice(&rows) {
-        Ok(()) => Ok(()),
-        Err(_) => Err(NoMemory),
-    }
-}
-
 /// The report of a whole run: the summary with the lines of the slaves, and behind it the rows of the edges
 /// where `with_rows` is set.
 pub fn run_report(
@@ -90,14 +72,15 @@ pub fn run_report(
     requires { HasRun segment.now bench.now (Ok tt) }
     ensures { IfOk result (λ text. text.items ≡ report_text segment.now bench.now with_rows) }
 {
-    let Ok(edges) = edges(alloc, segment, bench) else {
+    let Ok(edges) = kept_edges(alloc, segment, bench) else {
         return Err(NoMemory);
     };
-    let mut text = summary(alloc, segment, bench, &edges, true)?;
+    let text = summary(alloc, segment, bench, &edges, true)?;
     if with_rows {
-        push_rows(alloc, &mut text, segment, &edges)?;
+        edges_csv_behind(alloc, text, segment, &edges)
+    } else {
+        Ok(text)
     }
-    Ok(text)
 }
 
 /// The report of a whole run without the lines of the slaves.
@@ -105,7 +88,7 @@ pub fn drill_report(alloc: Global, segment: &Segment, bench: &Bench) -> Result<V
     requires { HasRun segment.now bench.now (Ok tt) }
     ensures { IfOk result (λ text. text.items ≡ drill_text segment.now bench.now) }
 {
-    let Ok(edges) = edges(alloc, segment, bench) else {
+    let Ok(edges) = kept_edges(alloc, segment, bench) else {
         return Err(NoMemory);
     };
     summary(alloc, segment, bench, &edges, false)

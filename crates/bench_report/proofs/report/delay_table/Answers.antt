@@ -3,8 +3,8 @@ use Rattle.edge_report.specs.Delays.{AreDelays}
 use Rattle.bench_report.proofs.Measured.{commissioned_delays}
 use Rattle.bench_report.proofs.report.delay_table.Goals as goal
 
-pub delays-requires : goal.delays-requires
-delays-requires c = commissioned_delays c.args.segment.now c.args.bench.now c.requires.legal c.requires.run
+pub measured_delays-requires : goal.measured_delays-requires
+measured_delays-requires c = commissioned_delays c.args.segment.now c.args.bench.now c.requires.legal c.requires.run
 
 pub delay_table-requires : goal.delay_table-requires
 delay_table-requires c =

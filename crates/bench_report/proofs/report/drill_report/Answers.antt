@@ -2,4 +2,4 @@ use Rattle.bench_report.proofs.Measured.{run_delays}
 use Rattle.bench_report.proofs.report.drill_report.Goals as goal
 
 pub summary-requires-clause-delays : goal.summary-requires-clause-delays
-summary-requires-clause-delays c = run_delays c.args.segment.now c.args.bench.now c.edges.ensures.legal c.requires
+summary-requires-clause-delays c = run_delays c.args.segment.now c.args.bench.now c.kept_edges.ensures.legal c.requires

@@ -5,7 +5,7 @@ use Rattle.bench_report.proofs.EdgesOfRun.{are_edges}
 use Rattle.bench_report.proofs.KeptEdges.{slaves_many}
 use Rattle.bench_report.proofs.Own.{run_own}
 use Rattle.bench_report.proofs.Pieces.{all_told, slave_more}
-use Rattle.bench_report.proofs.edges.edges.Goals as goal
+use Rattle.bench_report.proofs.edges.kept_edges.Goals as goal
 
 pub edges-requires : goal.edges-requires
 edges-requires c =
