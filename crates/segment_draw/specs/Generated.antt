@@ -59,7 +59,7 @@ start_of k d = 0
 abbrev pub sync1_of : ℕ → Option ℕ
 sync1_of ns = if ns % 2 == 1 then Some ns else None
 
--- a number that belongs to clocks, 0 at other slaves
+-- a number that belongs to clocks, 0 at other slaves: of the kinds that are drawn, those that measure are the clocks
 abbrev pub of_clock : ClockKind → ℕ → ℕ
 of_clock k n = if measures k then n else 0
 

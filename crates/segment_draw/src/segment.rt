@@ -53,7 +53,7 @@ fn drawn_segment(alloc: Global, n: u16, seed: u64) -> Result<Segment, AllocError
 }
 
 /// The segment of n slaves that a seed gives, always the same. It has a 1 ms frame period and no losses; its
-/// slaves are 64-bit and 32-bit clocks, and clockless slaves between them.
+/// slaves are 64-bit and 32-bit clocks, clockless slaves among them.
 pub fn generate(alloc: Global, n: u16, seed: u64) -> Result<Segment, NoMemory>
     requires { (1 ≤ n) × (n ≤ 256) }
     ensures is { IfOk result (λ s. s ≡ generated n seed) }
