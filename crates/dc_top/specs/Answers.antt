@@ -1,7 +1,7 @@
 -- What each answer of the top call says of the words, of the bytes that were read, of those that were written, and of the bench.
 use Rattle.std.specs.Prelude.{◌≡◌, ◌⊎◌, ◌≤◌, ℕ, List, [], length, Option, Some, None, ⊤}
 use Rattle.std.specs.Io.KnownBytes.{Appends, Keeps}
-use Rattle.dc_base.specs.Told.{AppendsFront, Drained, HasMore}
+use Rattle.dc_base.specs.Told.{Drained, HasMore}
 use Rattle.dc_bench.specs.BenchState.{BenchState}
 use Rattle.dc_show.specs.Shown.{Shows, Refuses}
 use Rattle.segment_draw.specs.Generated.{generated}
@@ -13,6 +13,7 @@ use Rattle.segment_text.specs.Migrated.{migrated}
 use Rattle.dc_top.specs.CheckText.{check_text}
 use Rattle.dc_top.specs.Runs.{IsLost, IsReport}
 use Rattle.dc_top.specs.SegFaults.{error_of}
+use Rattle.dc_top.specs.Written.{IsCut}
 use Rattle.dc_top.specs.declared.reading.InputUse.{InputUse}
 use Rattle.dc_top.specs.declared.reading.InputUse.TheVariants.{WholeInput, NoInput, NotBuilt}
 use Rattle.dc_top.specs.declared.report.Report.{Report}
@@ -83,10 +84,10 @@ RefusesBy Migrate bytes o bench = RefusesFile bytes o bench
 RefusesBy command bytes o bench = ⊥
 
 -- What an answer over the whole input says, where `Done` is what may be written and left in the bench, and `Refused` what each refusal says:
--- Done appends the whole text, WriteFault a front of it, and every other answer keeps what was taken.
+-- Done appends the whole text, WriteFault a front of a text that is not empty, and every other answer keeps what was taken.
 abbrev pub Served : (List ℕ → Option BenchState → Type 0) → (Outcome → Option BenchState → Type 0) → Outcome → Option (List ℕ) → Option (List ℕ) → Option BenchState → Type 0
 Served written refused Done taken taken' bench = (text : List ℕ) × (written text bench × Appends taken taken' text)
-Served written refused WriteFault taken taken' bench = (text : List ℕ) × (written text bench × AppendsFront taken taken' text)
+Served written refused WriteFault taken taken' bench = (text : List ℕ) × (written text bench × IsCut text taken taken')
 Served written refused NoMemory taken taken' bench = Keeps taken taken'
 Served written refused ReadFault taken taken' bench = ⊥
 Served written refused TooLong taken taken' bench = ⊥

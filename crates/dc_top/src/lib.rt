@@ -20,6 +20,8 @@ mod write;
 
 pub use lost_step::lost_step;
 pub use outcome::Outcome;
+pub use reading::InputUse;
+pub use report::Report;
 pub use seg_fault::SegFault;
 pub use segment_file::{Id, KeyPath, ShapeTree};
 pub use top::dc_main;

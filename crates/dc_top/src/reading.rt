@@ -4,8 +4,8 @@ ghost use Rattle.dc_top.specs.Answers.{reading};
 use dc_words::Command;
 
 /// What a command does with the input.
-#[derive(Clone, Copy)]
-pub(crate) enum InputUse {
+#[derive(Clone, Copy, Debug)]
+pub enum InputUse {
     /// It reads the input to its end.
     WholeInput,
     /// It reads nothing.

@@ -1,6 +1,6 @@
 /// What is written of a run.
-#[derive(Clone, Copy)]
-pub(crate) enum Report {
+#[derive(Clone, Copy, Debug)]
+pub enum Report {
     /// The table of delays, after commissioning alone.
     Delays,
     /// The report of a whole run, with the rows of its edges where they are asked for.

@@ -26,7 +26,10 @@ const INPUT_LIMIT: usize = 16_777_216;
 ///
 /// Words that are no command are answered by `Usage`, and the commands that are not built yet by `NotYet`; then nothing is read. `gen` and
 /// `drill` read nothing either. For the others the source is read to its end before anything is judged. Nothing is written before all is
-/// known. `delays`, `run` and `drill` drive a master over a wire; both are in `bench` afterwards, which every other command leaves empty.
+/// known, so only `WriteFault` can leave a part of the output.
+///
+/// `delays`, `run` and `drill` drive a master over a wire. After `Done`, `Lost` and `WriteFault` both are in `bench`, as the run has left
+/// them; after `NoMemory` nothing is said of it. It is None after every other answer, and after every other command.
 pub fn dc_main<I: Source, O: Sink>(
     alloc: Global,
     words: &[String],
