@@ -8,42 +8,58 @@ use std::alloc::Global;
 /// The three texts of a case.
 pub(crate) fn answer(alloc: Global, line: &str) -> anyhow::Result<String> {
     let words: Vec<&str> = line.split(' ').collect(alloc)?;
-    let [start, sent, lost, count, first_fs, late_fs, file] = words.as_slice() else {
-        bail!("START SENT LOST EDGES FIRST LATE FILE");
+    let [
+        start,
+        sent,
+        lost,
+        count,
+        fewer,
+        first_fs,
+        late_fs,
+        lines,
+        file,
+    ] = words.as_slice()
+    else {
+        bail!("START SENT LOST EDGES FEWER FIRST LATE LINES FILE");
     };
     let Ok(segment) = read_segment(alloc, file.as_bytes()) else {
         bail!("no legal file");
     };
     let times = Times {
         count: count.parse()?,
+        fewer: fewer.parse()?,
         first_fs: first_fs.parse()?,
         late_fs: late_fs.parse()?,
     };
-    let frames = Frames {
+    let numbers = Summary {
         start: start.parse()?,
         sent: sent.parse()?,
         lost: lost.parse()?,
+        slave_lines: *lines == "lines",
     };
-    texts(alloc, &segment, &frames, &times)
+    texts(alloc, &segment, &numbers, &times)
 }
 
+// The numbers of a summary beside delays and edges.
 #[derive(Clone, Copy, Debug)]
-struct Frames {
+struct Summary {
     start: u64,
     sent: u32,
     lost: u32,
+    /// Whether the summary has its slave lines.
+    slave_lines: bool,
 }
 
 fn texts(
     alloc: Global,
     segment: &Segment,
-    frames: &Frames,
+    numbers: &Summary,
     times: &Times,
 ) -> anyhow::Result<String> {
     let delays = delays_of(alloc, segment)?;
     let edges = edges_of(alloc, segment, times)?;
     let mut text = String::new(alloc);
-    let Ok(table) = delay_table(alloc, segment, &delays, frames.sent, frames.lost) else {
+    let Ok(table) = delay_table(alloc, segment, &delays, numbers.sent, numbers.lost) else {
         bail!("no memory");
     };
     push(alloc, &mut text, table)?;
@@ -51,11 +67,11 @@ fn texts(
         alloc,
         segment,
         &delays,
-        frames.start,
-        frames.sent,
-        frames.lost,
+        numbers.start,
+        numbers.sent,
+        numbers.lost,
         &edges,
-        false,
+        numbers.slave_lines,
     ) else {
         bail!("no memory");
     };

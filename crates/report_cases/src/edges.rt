@@ -10,15 +10,22 @@ use segment_file::{Segment, SlaveRow, has_clock};
 use std::alloc::{AllocError, Global};
 use sync_units::{Edge, Signal};
 
-/// How many edges a signal has, when the first is, and by how much each position is later (fs).
+/// How many edges a signal has, how many fewer each position has, when the first is, and by how much each position is later
+/// (fs).
 #[derive(Clone, Copy, Debug)]
 pub(crate) struct Times {
     pub(crate) count: u32,
+    pub(crate) fewer: u32,
     pub(crate) first_fs: u64,
     pub(crate) late_fs: u64,
 }
 
 impl Times {
+    fn count_at(&self, position: u16) -> u32 {
+        let fewer = self.fewer.saturating_mul(u32::from(position));
+        self.count.saturating_sub(fewer)
+    }
+
     fn at(&self, segment: &Segment, position: u16, index: u32, shift_ns: u32) -> u64 {
         let cycle_fs = 1_000_000 * u64::from(segment.cycle_ns());
         let late_fs = self.late_fs.wrapping_mul(u64::from(position));
@@ -111,7 +118,7 @@ fn push_clock(
     requires run { IsRunBefore segment.now position edges.old.items }
     ensures { OnOk result (IsRunBefore segment.now (position + 1) edges.new.items) }
 {
-    for index in 0..times.count.min(segment.cycles()) {
+    for index in 0..times.count_at(position).min(segment.cycles()) {
         push_index(edges, segment, position, index, times)?;
     }
     Ok(())
