@@ -12,7 +12,5 @@ mod draws;
 pub mod laws;
 mod segment;
 mod slave;
-#[cfg(test)]
-mod tests;
 
 pub use segment::generate;
