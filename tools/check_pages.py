@@ -57,6 +57,10 @@ def check_calls(page, crate, cell):
 def check_examples(page, text):
     """Each block of code behind a line that names files stands in them, but for its indentation."""
     for files, _, block in re.findall(r'\(((`[a-z_]+/[^`]+`(?:, )?)+)\):\n\n```\w*\n(.*?)\n```', text, re.S):
+        missing = [file for file in names_in(files) if not (HERE / 'crates' / file).exists()]
+        if missing:
+            complain(page, f'its example is of {missing[0]}, which is not there')
+            continue
         lines = [line.strip() for file in names_in(files) for line in (HERE / 'crates' / file).read_text().split('\n')]
         place = 0
         for line in filter(None, map(str.strip, block.split('\n'))):
