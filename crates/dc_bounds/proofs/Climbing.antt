@@ -1,10 +1,12 @@
 -- One step up.
 use Rattle.std.specs.Prelude.{◌≡◌, ℕ, suc, ◌+◌, ◌-◌, ◌<◌, ◌≤◌, Bool, true, false, ◌||◌, nat_eq, if◌then◌else◌, Some, None, List, length}
-use Rattle.std.proofs.Common.{arith, rules, refl, ◌∙◌}
+use Rattle.std.proofs.Common.{arith, rules, refl, sym, ◌∙◌, inl, inr}
+use Rattle.std.proofs.lemmas.Bool.{cases_lt, false≢true}
+use Rattle.std.proofs.lemmas.List.{get_or_past}
 use Rattle.std.proofs.lemmas.Bool.Decides.{nat_tests}
 use Rattle.cable_tree.specs.declared.port.Above.{Above}
 use Rattle.cable_tree.specs.Row.{Row, above}
-use Rattle.dc_bounds.specs.Weight.{measuring_from, measuring_within, measuring_parent, hop_weight, hops_by, hops_within, reaches, is_over, higher_or, meeting_within}
+use Rattle.dc_bounds.specs.Weight.{flag, measuring_from, measuring_within, measuring_parent, hop_weight, hops_by, hops_within, reaches, is_over, higher_or, meeting_within}
 
 pub measuring_step : (rows : List Row) (measures : ℕ → Bool) (n k r : ℕ) → k < n
     → measuring_within rows measures (n - k) r ≡ measuring_from measures (measuring_within rows measures (n - (k + 1))) (above rows r)
@@ -26,6 +28,14 @@ measuring_here rows measures n k r a h up measured = measuring_step rows measure
 pub measuring_higher : (rows : List Row) (measures : ℕ → Bool) (n k r : ℕ) (a : Above) → k < n → above rows r ≡ Some a → measures a.row ≡ false
     → measuring_within rows measures (n - k) r ≡ measuring_within rows measures (n - (k + 1)) a.row
 measuring_higher rows measures n k r a h up not_measured = measuring_step rows measures n k r h ∙ rw (up, not_measured) refl
+
+-- only a slave that is there measures
+pub flag_within : (flags : List Bool) (r : ℕ) → flag flags r ≡ true → r < length flags
+flag_within flags r is =
+    elim (cases_lt r (length flags)) [
+      | inl lt ↦ lt
+      | inr le ↦ absurd (false≢true (sym (get_or_past flags r false le) ∙ is))
+    ]
 
 hops_step : (rows : List Row) (measures : ℕ → Bool) (c n k r : ℕ) → k < n
     → hops_within rows measures c (n - k) r ≡ (if nat_eq r c then 0 else hops_by rows (hops_within rows measures c (n - (k + 1))) (measuring_parent rows measures r))

@@ -1,5 +1,5 @@
 -- One step up from a slave that is to be measured, and one step on in the frame order.
-use Rattle.std.specs.Prelude.{◌≡◌, ℕ, suc, ◌+◌, ◌-◌, ◌<◌, ◌≤◌, Bool, true, false, not, if◌then◌else◌, Option, Some, None, List, drop, filter}
+use Rattle.std.specs.Prelude.{◌≡◌, ℕ, zero, suc, ◌+◌, ◌-◌, ◌<◌, ◌≤◌, Bool, true, false, not, ◌&&◌, if◌then◌else◌, Option, Some, None, List, drop, filter}
 use Rattle.std.specs.List.{find}
 use Rattle.std.proofs.Common.{arith, refl, ◌∙◌}
 use Rattle.cable_tree.specs.declared.port.Above.{Above}
@@ -29,6 +29,21 @@ leads_to_a_branch rows measures n k r a h up passed many = step rows measures n 
 pub leads_on : (rows : List Row) (measures : ℕ → Bool) (n k r : ℕ) (a : Above) → k < n → above rows r ≡ Some a → measures a.row ≡ false
     → branches rows a.row ≡ false → is_measured_within rows measures (n - k) r ≡ is_measured_within rows measures (n - (k + 1)) a.row
 leads_on rows measures n k r a h up passed few = step rows measures n k r h ∙ rw (up, passed, few) refl
+
+-- a slave that is not there ends the way
+not_there : (b m : Bool) → m ≡ false → (not b && m) ≡ false
+not_there true m e = refl
+not_there false m e = e
+
+nowhere : (rows : List Row) (measures : ℕ → Bool) (left r : ℕ) → above rows r ≡ None → is_measured_within rows measures left r ≡ false
+unfolding is_measured_within
+nowhere rows measures zero r astray = refl
+nowhere rows measures (suc left) r astray = rw astray refl
+
+pub leads_astray : (rows : List Row) (measures : ℕ → Bool) (n k r : ℕ) (a : Above) → k < n → above rows r ≡ Some a → measures a.row ≡ false → above rows a.row ≡ None
+    → is_measured_within rows measures (n - k) r ≡ false
+leads_astray rows measures n k r a h up passed astray =
+    step rows measures n k r h ∙ rw (up, passed) (not_there (branches rows a.row) _ (nowhere rows measures (n - (k + 1)) a.row astray))
 
 -- the first one that is bad among those that measure from place i on, or behind the first of these
 abbrev pub first_bad : (ℕ → Bool) → (ℕ → Bool) → Bool → List ℕ → Option ℕ

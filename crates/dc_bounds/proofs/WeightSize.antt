@@ -1,54 +1,14 @@
 -- How large a weight can be.
-use Rattle.std.specs.Prelude.{◌≡◌, ℕ, suc, zero, ◌+◌, ◌-◌, ◌*◌, ◌<◌, ◌≤◌, Bool, true, false, nat_eq, if◌then◌else◌, Option, Some, None, MatchOption, List, [], ◌∷◌, length, slice_index}
+use Rattle.std.specs.Prelude.{◌≡◌, ℕ, suc, zero, ◌+◌, ◌-◌, ◌*◌, ◌<◌, ◌≤◌, Bool, true, false, nat_eq, if◌then◌else◌, Option, Some, None, List, [], ◌∷◌, length, slice_index}
 use Rattle.std.specs.List.{find}
 use Rattle.std.proofs.Common.{arith, refl, sym, ◌∙◌, subst}
 use Rattle.cable_tree.specs.declared.port.Above.{Above}
-use Rattle.cable_tree.specs.Row.{Row, above}
+use Rattle.cable_tree.specs.Row.{Row}
 use Rattle.cable_tree.specs.FrameOrder.{order}
 use Rattle.cable_tree.proofs.Rising.{order_within}
 use Rattle.cable_tree.specs.Segment.{IsSegment, IsTree, LeadsToRoot}
-use Rattle.dc_bounds.specs.Weight.{measuring_from, measuring_within, measuring_parent, has_earlier, has_later, hop_weight, hops_by, hops_within, is_leaf, weight_below, weight_to, weight, meeting, reference}
-
--- a parent leads to the root in one step less
-lower : (rows : List Row) (s r : ℕ) (a : Above) → above rows r ≡ Some a → LeadsToRoot rows (suc s) r → LeadsToRoot rows s a.row
-unfolding LeadsToRoot
-lower rows s r a up leads = subst (λ o. MatchOption o (Unit {0}) (λ b. LeadsToRoot rows s b.row)) up leads
-
-none_leads : (rows : List Row) (r : ℕ) → LeadsToRoot rows 0 r → ⊥
-unfolding LeadsToRoot
-none_leads rows r leads = leads
-
-all_more : (o : Option Above) (P Q : Above → Type 0) → ((a : Above) → P a → Q a) → MatchOption o (Unit {0}) P → MatchOption o (Unit {0}) Q
-all_more None P Q more h = tt
-all_more (Some a) P Q more h = more a h
-
-leads_more : (rows : List Row) (s r : ℕ) → LeadsToRoot rows s r → LeadsToRoot rows (suc s) r
-unfolding LeadsToRoot
-leads_more rows zero r leads = absurd leads
-leads_more rows (suc s) r leads = all_more (above rows r) (λ a. LeadsToRoot rows s a.row) (λ a. LeadsToRoot rows (suc s) a.row) (λ a. leads_more rows s a.row) leads
-
-some_same : {A : Type 0} {x y : A} → Some x ≡ Some y → x ≡ y
-some_same e = cc
-
--- the slave that a step up finds leads to the root in one step less
-one_up : (o : Option Above) (measures : ℕ → Bool) (higher : ℕ → Option Above) (rows : List Row) (s : ℕ) (a : Above)
-    → ((b : Above) → higher b.row ≡ Some a → LeadsToRoot rows s b.row → LeadsToRoot rows s a.row)
-    → MatchOption o (Unit {0}) (λ b. LeadsToRoot rows s b.row) → measuring_from measures higher o ≡ Some a → LeadsToRoot rows s a.row
-one_up None measures higher rows s a on leads found = absurd cc
-one_up (Some b) measures higher rows s a on leads found = by (measures b.row) refl
-  where
-    by : (m : Bool) → measures b.row ≡ m → LeadsToRoot rows s a.row
-    by true e = let here : Some b ≡ Some a = sym (rw e refl) ∙ found in subst (λ x. LeadsToRoot rows s x.row) (some_same here) leads
-    by false e = let there : higher b.row ≡ Some a = sym (rw e refl) ∙ found in on b there leads
-
-within_up : (rows : List Row) (measures : ℕ → Bool) (k s r : ℕ) (a : Above) → LeadsToRoot rows (suc s) r → measuring_within rows measures k r ≡ Some a → LeadsToRoot rows s a.row
-unfolding LeadsToRoot measuring_within
-within_up rows measures zero s r a leads found = absurd cc
-within_up rows measures (suc k) zero r a leads found =
-    one_up (above rows r) measures (measuring_within rows measures k) rows 0 a (λ b up none. absurd (none_leads rows b.row none)) leads found
-within_up rows measures (suc k) (suc s) r a leads found =
-    one_up (above rows r) measures (measuring_within rows measures k) rows (suc s) a
-    (λ b up more. leads_more rows s a.row (within_up rows measures k s b.row a more up)) leads found
+use Rattle.dc_bounds.specs.Weight.{measuring_parent, has_earlier, has_later, hop_weight, hops_by, hops_within, is_leaf, weight_below, weight_to, weight, meeting, reference}
+use Rattle.dc_bounds.proofs.Upwards.{lower_measuring, none_leads, some_same}
 
 hop_few : (rows : List Row) (a : Above) → hop_weight rows a ≤ 2
 hop_few rows a = at_most (has_earlier rows a) (has_later rows a)
@@ -70,10 +30,10 @@ unfolding hops_within
 hops_few rows measures c zero s r leads = omega arith
 hops_few rows measures c (suc k) zero r leads =
     by_parent rows (measuring_parent rows measures r) (nat_eq r c) 0 (hops_within rows measures c k)
-    (λ a up. absurd (none_leads rows a.row (within_up rows measures (length rows) 0 r a leads up)))
+    (λ a up. absurd (none_leads rows a.row (lower_measuring rows measures (length rows) 0 r a up leads)))
 hops_few rows measures c (suc k) (suc s) r leads =
     by_parent rows (measuring_parent rows measures r) (nat_eq r c) (2 * suc s) (hops_within rows measures c k)
-    (λ a up. let rest = hops_few rows measures c k s a.row (within_up rows measures (length rows) (suc s) r a leads up) in omega (arith, rest))
+    (λ a up. let rest = hops_few rows measures c k s a.row (lower_measuring rows measures (length rows) (suc s) r a up leads) in omega (arith, rest))
 
 below_few : (rows : List Row) (measures : ℕ → Bool) (c r : ℕ) → IsTree rows → length rows ≤ 256 → r < length rows → weight_below rows measures c r ≤ 512
 below_few rows measures c r tree few within =

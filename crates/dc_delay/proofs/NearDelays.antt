@@ -22,7 +22,8 @@ use Rattle.dc_bounds.proofs.FirstClock.{reference_within, reference_timed, refer
 use Rattle.dc_bounds.proofs.Weightless.{weightless}
 use Rattle.dc_delay.specs.MeasuredDelay.{ahead, back, delay, delay_from}
 use Rattle.dc_delay.specs.LatchLaw.{AreAllLatched}
-use Rattle.dc_delay.proofs.Recursions.{climb_measuring, parent_measures, over_is, meeting_is}
+use Rattle.dc_bounds.proofs.Upwards.{parent_measures}
+use Rattle.dc_delay.proofs.Recursions.{climb_measuring, over_is, meeting_is}
 use Rattle.dc_delay.proofs.AddedUp.{weighed}
 use Rattle.dc_delay.proofs.Order.{has_parent, measurable_after, are_measurable}
 

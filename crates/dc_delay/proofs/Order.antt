@@ -15,7 +15,8 @@ use Rattle.cable_tree.proofs.Members.{place_of}
 use Rattle.dc_bounds.specs.Weight.{measuring_from, measuring_parent}
 use Rattle.dc_bounds.specs.Measurable.{branches, leads_from, is_measurable, unmeasurable}
 use Rattle.dc_delay.specs.LatchLaw.{AreMeasurable}
-use Rattle.dc_delay.proofs.Recursions.{climb_above, measuring_is, measured_is, parent_measures, parent_within}
+use Rattle.dc_bounds.proofs.Upwards.{parent_measures, parent_within}
+use Rattle.dc_delay.proofs.Recursions.{climb_above, measuring_is, measured_is}
 
 module _ (measures test : ℕ → Bool) where
   -- where no measuring one fails, each passes

@@ -17,7 +17,8 @@ use Rattle.dc_bounds.specs.Weight.{is_connected, measuring_from, measuring_paren
 use Rattle.dc_bounds.specs.Measurable.{branches, leads_from, is_measurable}
 use Rattle.dc_delay.specs.ShapeRows.{tp_ns, tf_ns}
 use Rattle.dc_delay.specs.MeasuredDelay.{passed_from, passed}
-use Rattle.dc_delay.proofs.Recursions.{some_same, climb_above, measuring_is, passed_is, measured_is}
+use Rattle.dc_bounds.proofs.Upwards.{some_same}
+use Rattle.dc_delay.proofs.Recursions.{climb_above, measuring_is, passed_is, measured_is}
 
 -- at most one of three
 abbrev one_of : Bool → ℕ
