@@ -4,7 +4,7 @@ use Rattle.std.proofs.Common.{refl, sym, ◌∙◌, subst}
 use Rattle.cable_tree.specs.declared.port.Above.{Above}
 use Rattle.cable_tree.specs.Row.{Row, above}
 use Rattle.cable_tree.specs.Segment.{IsTree, LeadsToRoot}
-use Rattle.dc_bounds.specs.Weight.{measuring_from, measuring_within}
+use Rattle.dc_bounds.specs.Weight.{measuring_step, measuring_within}
 
 -- a parent leads to the root in one step less
 pub lower_above : (rows : List Row) (s r : ℕ) (a : Above) → above rows r ≡ Some a → LeadsToRoot rows (suc s) r → LeadsToRoot rows s a.row
@@ -32,7 +32,7 @@ module _ (rows : List Row) (measures : ℕ → Bool) (P : ℕ → Above → Type
     (here : (r : ℕ) (b : Above) → above rows r ≡ Some b → measures b.row ≡ true → P r b)
     (later : (r : ℕ) (b a : Above) → above rows r ≡ Some b → measures b.row ≡ false → P b.row a → P r a) where
   at_above : (higher : ℕ → Option Above) (r : ℕ) (a : Above) (o : Option Above) → above rows r ≡ o → ((q : ℕ) → higher q ≡ Some a → P q a)
-      → measuring_from measures higher o ≡ Some a → P r a
+      → measuring_step measures higher o ≡ Some a → P r a
   at_above higher r a None up more found = absurd cc
   at_above higher r a (Some b) up more found = by (measures b.row) refl
     where

@@ -7,7 +7,7 @@ use Rattle.cable_tree.specs.Row.{Row}
 use Rattle.cable_tree.specs.FrameOrder.{order}
 use Rattle.cable_tree.proofs.Rising.{order_within}
 use Rattle.cable_tree.specs.Segment.{IsSegment, IsTree, LeadsToRoot}
-use Rattle.dc_bounds.specs.Weight.{measuring_parent, has_earlier, has_later, hop_weight, hops_by, hops_within, is_leaf, weight_below, weight_to, weight, meeting, reference}
+use Rattle.dc_bounds.specs.Weight.{measuring_parent, has_earlier, has_later, hop_weight, hops_step, hops_within, is_leaf, weight_below, weight_to, weight, meeting, reference}
 use Rattle.dc_bounds.proofs.Upwards.{lower_measuring, none_leads, some_same}
 
 hop_few : (rows : List Row) (a : Above) → hop_weight rows a ≤ 2
@@ -20,7 +20,7 @@ hop_few rows a = at_most (has_earlier rows a) (has_later rows a)
     at_most false false = omega arith
 
 by_parent : (rows : List Row) (o : Option Above) (here : Bool) (n : ℕ) (higher : ℕ → ℕ) → ((a : Above) → o ≡ Some a → higher a.row + 2 ≤ n)
-    → (if here then 0 else hops_by rows higher o) ≤ n
+    → (if here then 0 else hops_step rows higher o) ≤ n
 by_parent rows o true n higher low = omega arith
 by_parent rows None false n higher low = omega arith
 by_parent rows (Some a) false n higher low = let rest = low a refl in let hop = hop_few rows a in omega (arith, rest, hop)

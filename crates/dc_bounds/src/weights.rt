@@ -62,7 +62,7 @@ fn meeting(tree: &Tree, measuring: &[bool], reference: u16, row: u16) -> u16
 fn is_over(tree: &Tree, measuring: &[bool], over: u16, row: u16) -> bool
     requires measuring { length measuring.now ≡ length tree.now }
     requires row { row < length tree.now }
-    ensures { result ≡ is_over tree.now (flag measuring.now) over (length tree.now) row }
+    ensures { result ≡ is_over tree.now (flag measuring.now) over row }
 {
     let mut here = row;
     for _ in 0..tree.len() {
