@@ -1,14 +1,12 @@
 -- How large a weight can be.
-use Rattle.std.specs.Prelude.{◌≡◌, ℕ, suc, zero, ◌+◌, ◌-◌, ◌*◌, ◌<◌, ◌≤◌, Bool, true, false, nat_eq, if◌then◌else◌, Option, Some, None, List, [], ◌∷◌, length, slice_index}
-use Rattle.std.specs.List.{find}
-use Rattle.std.proofs.Common.{arith, refl, sym, ◌∙◌, subst}
+use Rattle.std.specs.Prelude.{◌≡◌, ℕ, suc, zero, ◌+◌, ◌-◌, ◌*◌, ◌<◌, ◌≤◌, Bool, true, false, nat_eq, if◌then◌else◌, Option, Some, None, List, length}
+use Rattle.std.proofs.Common.{arith, refl}
 use Rattle.cable_tree.specs.declared.port.Above.{Above}
 use Rattle.cable_tree.specs.Row.{Row}
-use Rattle.cable_tree.specs.FrameOrder.{order}
-use Rattle.cable_tree.proofs.Rising.{order_within}
 use Rattle.cable_tree.specs.Segment.{IsSegment, IsTree, LeadsToRoot}
 use Rattle.dc_bounds.specs.Weight.{measuring_parent, has_earlier, has_later, hop_weight, hops_step, hops_within, is_leaf, weight_below, weight_to, weight, meeting, reference}
-use Rattle.dc_bounds.proofs.Upwards.{lower_measuring, none_leads, some_same}
+use Rattle.dc_bounds.proofs.FirstClock.{reference_within}
+use Rattle.dc_bounds.proofs.Upwards.{lower_measuring, none_leads}
 
 hop_few : (rows : List Row) (a : Above) → hop_weight rows a ≤ 2
 hop_few rows a = at_most (has_earlier rows a) (has_later rows a)
@@ -47,15 +45,6 @@ below_few rows measures c r tree few within =
     at_most false true h low = omega arith
     at_most false false h low = omega arith
 
-find_within : (p : ℕ → Bool) (xs : List ℕ) (n q : ℕ) → ((i : ℕ) → i < length xs → slice_index xs i < n) → find p xs ≡ Some q → q < n
-find_within p [] n q within found = absurd cc
-find_within p (x ∷ xs) n q within found =
-    at (p x) refl (find_within p xs n q (λ i low. within (suc i) (omega arith)))
-  where
-    at : (here : Bool) → p x ≡ here → (find p xs ≡ Some q → q < n) → q < n
-    at true e later = let same : Some x ≡ Some q = sym (rw e refl) ∙ found in subst (λ y. y < n) (some_same same) (within 0 (omega arith))
-    at false e later = later (sym (rw e refl) ∙ found)
-
 pub way_few : (rows : List Row) (measures : ℕ → Bool) (c r : ℕ) → IsSegment rows → r < length rows → weight_below rows measures c r ≤ 512
 way_few rows measures c r segment within = below_few rows measures c r segment.tree segment.few within
 
@@ -65,7 +54,7 @@ weight_few rows measures timed r segment within = to (reference rows timed) refl
     to : (o : Option ℕ) → reference rows timed ≡ o → weight_to rows measures r o ≤ 1024
     to None e = omega arith
     to (Some q) e =
-        let clock = find_within timed (order rows) (length rows) q (order_within rows segment.tree segment.slaves) e in
+        let clock = reference_within rows segment.tree segment.slaves timed q e in
         let here = below_few rows measures (meeting rows measures q r) r segment.tree segment.few within in
         let there = below_few rows measures (meeting rows measures q r) q segment.tree segment.few clock in
         omega (arith, here, there)
