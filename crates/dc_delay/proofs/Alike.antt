@@ -10,7 +10,7 @@ use Rattle.cable_tree.specs.declared.port.Above.{Above}
 use Rattle.cable_tree.specs.declared.port.Port.{Port}
 use Rattle.cable_tree.specs.declared.port.Port.TheVariants.{P1, P2, P3}
 use Rattle.cable_tree.specs.Row.{Row, no_row, above}
-use Rattle.cable_tree.specs.FrameOrder.{is_at, is_nowhere, child, behind, order_from, order, root}
+use Rattle.cable_tree.specs.FrameOrder.{is_at, is_nowhere, child, behind, subtree_within, order, root}
 use Rattle.cable_tree.specs.Hops.{or_before, previous, last_port}
 use Rattle.dc_bounds.specs.Weight.{measuring_step, measuring_within, measuring_parent}
 use Rattle.dc_bounds.specs.Measurable.{branches, is_measured_step, is_measured_within, is_measurable, unmeasurable}
@@ -76,19 +76,19 @@ module _ (rows others : List Row) (alike : HangAlike rows others) where
       ∙ ap (λ o. nat_le 2 ((if is_some (child others r P3) then 1 else 0) + (if is_some o then 1 else 0) + (if is_some (child rows r P2) then 1 else 0))) (alike.child r P1)
       ∙ ap (λ o. nat_le 2 ((if is_some (child others r P3) then 1 else 0) + (if is_some (child others r P1) then 1 else 0) + (if is_some o then 1 else 0))) (alike.child r P2)
 
-  order_levels : (levels r : ℕ) → order_from rows levels r ≡ order_from others levels r
-  unfolding order_from
+  order_levels : (levels r : ℕ) → subtree_within rows levels r ≡ subtree_within others levels r
+  unfolding subtree_within
   order_levels zero r = refl
   order_levels (suc levels) r =
-      let deeper : order_from rows levels ≡ order_from others levels = fun_ext (λ k. order_levels levels k) in
+      let deeper : subtree_within rows levels ≡ subtree_within others levels = fun_ext (λ k. order_levels levels k) in
       ap (λ f. r ∷ (behind f (child rows r P3) ++ behind f (child rows r P1) ++ behind f (child rows r P2))) deeper
-      ∙ ap (λ o. r ∷ (behind (order_from others levels) o ++ behind (order_from others levels) (child rows r P1) ++ behind (order_from others levels) (child rows r P2))) (alike.child r P3)
-      ∙ ap (λ o. r ∷ (behind (order_from others levels) (child others r P3) ++ behind (order_from others levels) o ++ behind (order_from others levels) (child rows r P2))) (alike.child r P1)
-      ∙ ap (λ o. r ∷ (behind (order_from others levels) (child others r P3) ++ behind (order_from others levels) (child others r P1) ++ behind (order_from others levels) o)) (alike.child r P2)
+      ∙ ap (λ o. r ∷ (behind (subtree_within others levels) o ++ behind (subtree_within others levels) (child rows r P1) ++ behind (subtree_within others levels) (child rows r P2))) (alike.child r P3)
+      ∙ ap (λ o. r ∷ (behind (subtree_within others levels) (child others r P3) ++ behind (subtree_within others levels) o ++ behind (subtree_within others levels) (child rows r P2))) (alike.child r P1)
+      ∙ ap (λ o. r ∷ (behind (subtree_within others levels) (child others r P3) ++ behind (subtree_within others levels) (child others r P1) ++ behind (subtree_within others levels) o)) (alike.child r P2)
 
   pub order_same : order rows ≡ order others
   order_same =
-      order_levels (length rows) (root rows) ∙ ap (λ n. order_from others n (root rows)) alike.whole ∙ ap (order_from others (length others)) alike.root
+      order_levels (length rows) (root rows) ∙ ap (λ n. subtree_within others n (root rows)) alike.whole ∙ ap (subtree_within others (length others)) alike.root
 
   module _ (measures : ℕ → Bool) where
     measured_steps : (steps r : ℕ) → is_measured_within rows measures steps r ≡ is_measured_within others measures steps r
