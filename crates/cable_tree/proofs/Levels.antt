@@ -6,8 +6,8 @@ use Rattle.cable_tree.specs.declared.port.Port.{Port}
 use Rattle.cable_tree.specs.declared.port.Port.TheVariants.{P1, P2, P3}
 use Rattle.cable_tree.specs.Row.{Row, above, tp, tf, cable}
 use Rattle.cable_tree.specs.Segment.{IsTree, IsRoot, LeadsToRoot}
-use Rattle.cable_tree.specs.FrameOrder.{child, behind, order_from, subtree}
-use Rattle.cable_tree.specs.PathSums.{detour_to, detour, earlier, span_from, span, arrive_below, arrive_from, arrive}
+use Rattle.cable_tree.specs.FrameOrder.{child, behind, subtree_within, subtree}
+use Rattle.cable_tree.specs.PathSums.{detour_to, detour, earlier, span_within, span, arrive_step, arrive_within, arrive}
 use Rattle.cable_tree.proofs.Children.{at_spot, child_hangs}
 
 -- the subtree has at most so many levels
@@ -30,7 +30,7 @@ pub some_same : {A : Type 0} {a b : A} → Some a ≡ Some b → a ≡ b
 some_same e = cc
 
 below_same : (rows : List Row) (f g : ℕ → ℕ) (r : ℕ) (P : ℕ → Type 0) → ((q : ℕ) → P q → f q ≡ g q) → (o : Option Above)
-    → MatchOption o (Unit {0}) (λ a. P a.row) → arrive_below rows f r o ≡ arrive_below rows g r o
+    → MatchOption o (Unit {0}) (λ a. P a.row) → arrive_step rows f r o ≡ arrive_step rows g r o
 below_same rows f g r P same None h = refl
 below_same rows f g r P same (Some a) h = ap (λ t. t + tp rows a.row + earlier rows a.row a.port + cable rows r) (same a.row h)
 
@@ -41,18 +41,18 @@ module _ (rows : List Row) where
   order_same f g r same =
       rw (behind_same f g (child rows r P3) (same P3), behind_same f g (child rows r P1) (same P1), behind_same f g (child rows r P2) (same P2)) refl
 
-  order_more : (levels r : ℕ) → HasLevels rows levels r → order_from rows (suc levels) r ≡ order_from rows levels r
-  unfolding order_from HasLevels
+  order_more : (levels r : ℕ) → HasLevels rows levels r → subtree_within rows (suc levels) r ≡ subtree_within rows levels r
+  unfolding subtree_within HasLevels
   order_more zero r h = absurd h
   order_more (suc levels) r h =
-      ap (λ t. r ∷ t) (order_same (order_from rows (suc levels)) (order_from rows levels) r (λ p k e. order_more levels k (h p k e)))
+      ap (λ t. r ∷ t) (order_same (subtree_within rows (suc levels)) (subtree_within rows levels) r (λ p k e. order_more levels k (h p k e)))
 
-  order_step : (levels r : ℕ) → HasLevels rows levels r → order_from rows levels r
-      ≡ r ∷ (behind (order_from rows levels) (child rows r P3) ++ behind (order_from rows levels) (child rows r P1) ++ behind (order_from rows levels) (child rows r P2))
-  unfolding order_from HasLevels
-  order_step zero r h = absurd h
-  order_step (suc levels) r h =
-      ap (λ t. r ∷ t) (sym (order_same (order_from rows (suc levels)) (order_from rows levels) r (λ p k e. order_more levels k (h p k e))))
+  order_next : (levels r : ℕ) → HasLevels rows levels r → subtree_within rows levels r
+      ≡ r ∷ (behind (subtree_within rows levels) (child rows r P3) ++ behind (subtree_within rows levels) (child rows r P1) ++ behind (subtree_within rows levels) (child rows r P2))
+  unfolding subtree_within HasLevels
+  order_next zero r h = absurd h
+  order_next (suc levels) r h =
+      ap (λ t. r ∷ t) (sym (order_same (subtree_within rows (suc levels)) (subtree_within rows levels) r (λ p k e. order_more levels k (h p k e))))
 
   span_same : (f g : ℕ → ℕ) (r : ℕ) → ((p : Port) (k : ℕ) → child rows r p ≡ Some k → f k ≡ g k) →
       tp rows r + (detour_to rows f r (child rows r P3) + detour_to rows f r (child rows r P1) + detour_to rows f r (child rows r P2))
@@ -63,16 +63,16 @@ module _ (rows : List Row) where
       let c = detour_same rows f g r (child rows r P2) (same P2) in
       omega (arith, a, b, c)
 
-  span_more : (levels r : ℕ) → HasLevels rows levels r → span_from rows (suc levels) r ≡ span_from rows levels r
-  unfolding span_from HasLevels
+  span_more : (levels r : ℕ) → HasLevels rows levels r → span_within rows (suc levels) r ≡ span_within rows levels r
+  unfolding span_within HasLevels
   span_more zero r h = absurd h
-  span_more (suc levels) r h = span_same (span_from rows (suc levels)) (span_from rows levels) r (λ p k e. span_more levels k (h p k e))
+  span_more (suc levels) r h = span_same (span_within rows (suc levels)) (span_within rows levels) r (λ p k e. span_more levels k (h p k e))
 
-  span_step : (levels r : ℕ) → HasLevels rows levels r → span_from rows levels r
-      ≡ tp rows r + (detour_to rows (span_from rows levels) r (child rows r P3) + detour_to rows (span_from rows levels) r (child rows r P1) + detour_to rows (span_from rows levels) r (child rows r P2))
-  unfolding span_from HasLevels
-  span_step zero r h = absurd h
-  span_step (suc levels) r h = sym (span_same (span_from rows (suc levels)) (span_from rows levels) r (λ p k e. span_more levels k (h p k e)))
+  span_next : (levels r : ℕ) → HasLevels rows levels r → span_within rows levels r
+      ≡ tp rows r + (detour_to rows (span_within rows levels) r (child rows r P3) + detour_to rows (span_within rows levels) r (child rows r P1) + detour_to rows (span_within rows levels) r (child rows r P2))
+  unfolding span_within HasLevels
+  span_next zero r h = absurd h
+  span_next (suc levels) r h = sym (span_same (span_within rows (suc levels)) (span_within rows levels) r (λ p k e. span_more levels k (h p k e)))
 
   -- how many steps a row is below a root
   unfoldable pub Depth : ℕ → ℕ → Type 0
@@ -131,29 +131,29 @@ module _ (rows : List Row) where
   -- the subtree of a row, by those of its children
   pub subtree_is : IsTree rows → (r : ℕ) → r < length rows → subtree rows r
       ≡ r ∷ (behind (subtree rows) (child rows r P3) ++ behind (subtree rows) (child rows r P1) ++ behind (subtree rows) (child rows r P2))
-  subtree_is tree r within = order_step (length rows) r (has_levels tree r within)
+  subtree_is tree r within = order_next (length rows) r (has_levels tree r within)
 
   pub span_is : IsTree rows → (r : ℕ) → r < length rows → span rows r ≡ tp rows r + (detour rows r P3 + detour rows r P1 + detour rows r P2)
-  span_is tree r within = span_step (length rows) r (has_levels tree r within)
+  span_is tree r within = span_next (length rows) r (has_levels tree r within)
 
-  arrive_more : (s r : ℕ) → LeadsToRoot rows s r → arrive_from rows (suc s) r ≡ arrive_from rows s r
-  unfolding arrive_from LeadsToRoot
+  arrive_more : (s r : ℕ) → LeadsToRoot rows s r → arrive_within rows (suc s) r ≡ arrive_within rows s r
+  unfolding arrive_within LeadsToRoot
   arrive_more zero r h = absurd h
-  arrive_more (suc s) r h = below_same rows (arrive_from rows (suc s)) (arrive_from rows s) r (LeadsToRoot rows s) (arrive_more s) (above rows r) h
+  arrive_more (suc s) r h = below_same rows (arrive_within rows (suc s)) (arrive_within rows s) r (LeadsToRoot rows s) (arrive_more s) (above rows r) h
 
-  arrive_step : (s r : ℕ) → LeadsToRoot rows s r → arrive_from rows s r ≡ arrive_below rows (arrive_from rows s) r (above rows r)
-  unfolding arrive_from LeadsToRoot
-  arrive_step zero r h = absurd h
-  arrive_step (suc s) r h = sym (below_same rows (arrive_from rows (suc s)) (arrive_from rows s) r (LeadsToRoot rows s) (arrive_more s) (above rows r) h)
+  arrive_next : (s r : ℕ) → LeadsToRoot rows s r → arrive_within rows s r ≡ arrive_step rows (arrive_within rows s) r (above rows r)
+  unfolding arrive_within LeadsToRoot
+  arrive_next zero r h = absurd h
+  arrive_next (suc s) r h = sym (below_same rows (arrive_within rows (suc s)) (arrive_within rows s) r (LeadsToRoot rows s) (arrive_more s) (above rows r) h)
 
-  pub arrive_is : IsTree rows → (r : ℕ) → r < length rows → arrive rows r ≡ arrive_below rows (arrive rows) r (above rows r)
-  arrive_is tree r within = arrive_step (length rows) r (tree.leads r within)
+  pub arrive_is : IsTree rows → (r : ℕ) → r < length rows → arrive rows r ≡ arrive_step rows (arrive rows) r (above rows r)
+  arrive_is tree r within = arrive_next (length rows) r (tree.leads r within)
 
   pub arrive_at_root : IsTree rows → (r : ℕ) → r < length rows → IsRoot rows r → arrive rows r ≡ cable rows r
-  arrive_at_root tree r within is = arrive_is tree r within ∙ ap (arrive_below rows (arrive rows) r) is
+  arrive_at_root tree r within is = arrive_is tree r within ∙ ap (arrive_step rows (arrive rows) r) is
 
   pub arrive_at_child : IsTree rows → (r : ℕ) (p : Port) (k : ℕ) → child rows r p ≡ Some k →
       arrive rows k ≡ arrive rows r + tp rows r + earlier rows r p + cable rows k
   arrive_at_child tree r p k e =
       let is = child_hangs rows r p k e in
-      arrive_is tree k is.0 ∙ ap (arrive_below rows (arrive rows) k) is.1
+      arrive_is tree k is.0 ∙ ap (arrive_step rows (arrive rows) k) is.1

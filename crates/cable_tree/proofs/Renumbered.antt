@@ -12,9 +12,9 @@ use Rattle.cable_tree.specs.declared.port.Port.{Port}
 use Rattle.cable_tree.specs.declared.port.Port.TheVariants.{P1, P2, P3}
 use Rattle.cable_tree.specs.Row.{Row, IsRow, no_row, row_at, above, tp, tf, cable}
 use Rattle.cable_tree.specs.Segment.{IsTree, LeadsToRoot}
-use Rattle.cable_tree.specs.FrameOrder.{child, behind, order_from, order, root}
+use Rattle.cable_tree.specs.FrameOrder.{child, behind, subtree_within, order, root}
 use Rattle.cable_tree.specs.Hops.{lap, lap_to}
-use Rattle.cable_tree.specs.PathSums.{detour_to, earlier, span_from, span, arrive_below, arrive_from, arrive, back_from, port_time, round_trip}
+use Rattle.cable_tree.specs.PathSums.{detour_to, earlier, span_within, span, arrive_step, arrive_within, arrive, back_from, port_time, round_trip}
 use Rattle.cable_tree.proofs.Children.{at_spot, child_hangs, child_is, root_of}
 use Rattle.cable_tree.proofs.Levels.{none_some, some_same}
 use Rattle.cable_tree.proofs.Members.{order_whole}
@@ -180,18 +180,18 @@ module _ (rows : List Row) (tree : IsTree rows) (slaves : All IsRow rows) where
       ap (detour_to (renumbered rows) f (position_of rows r)) (children r within p)
       ∙ detour_at f g r within (child rows r p) (λ k e. let low = (child_hangs rows r p k e).0 in (low, same k low))
 
-  span_levels : (levels r : ℕ) → r < length rows → span_from (renumbered rows) levels (position_of rows r) ≡ span_from rows levels r
-  unfolding span_from
+  span_levels : (levels r : ℕ) → r < length rows → span_within (renumbered rows) levels (position_of rows r) ≡ span_within rows levels r
+  unfolding span_within
   span_levels zero r within = refl
   span_levels (suc levels) r within =
-      let three = detour_here (span_from (renumbered rows) levels) (span_from rows levels) r within (span_levels levels) P3 in
-      let one = detour_here (span_from (renumbered rows) levels) (span_from rows levels) r within (span_levels levels) P1 in
-      let two = detour_here (span_from (renumbered rows) levels) (span_from rows levels) r within (span_levels levels) P2 in
+      let three = detour_here (span_within (renumbered rows) levels) (span_within rows levels) r within (span_levels levels) P3 in
+      let one = detour_here (span_within (renumbered rows) levels) (span_within rows levels) r within (span_levels levels) P1 in
+      let two = detour_here (span_within (renumbered rows) levels) (span_within rows levels) r within (span_levels levels) P2 in
       let first = tp_here r within in
       omega (arith, three, one, two, first)
 
   pub span_here : (r : ℕ) → r < length rows → span (renumbered rows) (position_of rows r) ≡ span rows r
-  span_here r within = ap (λ n. span_from (renumbered rows) n (position_of rows r)) whole ∙ span_levels (length rows) r within
+  span_here r within = ap (λ n. span_within (renumbered rows) n (position_of rows r)) whole ∙ span_levels (length rows) r within
 
   earlier_here : (r : ℕ) → r < length rows → (p : Port) → earlier (renumbered rows) (position_of rows r) p ≡ earlier rows r p
   earlier_here r within P3 = refl
@@ -200,7 +200,7 @@ module _ (rows : List Row) (tree : IsTree rows) (slaves : All IsRow rows) where
       ap₂ (λ x y. x + y) (detour_here (span (renumbered rows)) (span rows) r within span_here P3) (detour_here (span (renumbered rows)) (span rows) r within span_here P1)
 
   arrive_at : (f g : ℕ → ℕ) (r : ℕ) → r < length rows → (o : Option Above) → ((a : Above) → o ≡ Some a → (a.row < length rows) × (f (position_of rows a.row) ≡ g a.row))
-      → arrive_below (renumbered rows) f (position_of rows r) (by_position rows o) ≡ arrive_below rows g r o
+      → arrive_step (renumbered rows) f (position_of rows r) (by_position rows o) ≡ arrive_step rows g r o
   arrive_at f g r within None known = cable_here r within
   arrive_at f g r within (Some a) known =
       let is = known a refl in
@@ -210,16 +210,16 @@ module _ (rows : List Row) (tree : IsTree rows) (slaves : All IsRow rows) where
       let start = is.1 in
       omega (arith, way, first, before, start)
 
-  arrive_steps : (s r : ℕ) → r < length rows → arrive_from (renumbered rows) s (position_of rows r) ≡ arrive_from rows s r
-  unfolding arrive_from
+  arrive_steps : (s r : ℕ) → r < length rows → arrive_within (renumbered rows) s (position_of rows r) ≡ arrive_within rows s r
+  unfolding arrive_within
   arrive_steps zero r within = refl
   arrive_steps (suc s) r within =
-      ap (arrive_below (renumbered rows) (arrive_from (renumbered rows) s) (position_of rows r)) (above_here r within)
-      ∙ arrive_at (arrive_from (renumbered rows) s) (arrive_from rows s) r within (above rows r)
+      ap (arrive_step (renumbered rows) (arrive_within (renumbered rows) s) (position_of rows r)) (above_here r within)
+      ∙ arrive_at (arrive_within (renumbered rows) s) (arrive_within rows s) r within (above rows r)
       (λ a e. let low = tree.parents r a within e in (low, arrive_steps s a.row low))
 
   pub arrive_here : (r : ℕ) → r < length rows → arrive (renumbered rows) (position_of rows r) ≡ arrive rows r
-  arrive_here r within = ap (λ n. arrive_from (renumbered rows) n (position_of rows r)) whole ∙ arrive_steps (length rows) r within
+  arrive_here r within = ap (λ n. arrive_within (renumbered rows) n (position_of rows r)) whole ∙ arrive_steps (length rows) r within
 
   back_at : (o : Option ℕ) → ((k : ℕ) → o ≡ Some k → k < length rows) → back_from (renumbered rows) (option_map (position_of rows) o) ≡ back_from rows o
   back_at None known = refl
@@ -261,12 +261,12 @@ module _ (rows : List Row) (tree : IsTree rows) (slaves : All IsRow rows) where
   behind_at f g None known = refl
   behind_at f g (Some k) known = known k refl
 
-  order_levels : (levels r : ℕ) → r < length rows → order_from (renumbered rows) levels (position_of rows r) ≡ map (position_of rows) (order_from rows levels r)
-  unfolding order_from
+  order_levels : (levels r : ℕ) → r < length rows → subtree_within (renumbered rows) levels (position_of rows r) ≡ map (position_of rows) (subtree_within rows levels r)
+  unfolding subtree_within
   order_levels zero r within = refl
   order_levels (suc levels) r within =
-      let f = order_from (renumbered rows) levels in
-      let g = order_from rows levels in
+      let f = subtree_within (renumbered rows) levels in
+      let g = subtree_within rows levels in
       let part : (p : Port) → behind f (child (renumbered rows) (position_of rows r) p) ≡ map (position_of rows) (behind g (child rows r p))
       = λ p. ap (behind f) (children r within p) ∙ behind_at f g (child rows r p) (λ k e. order_levels levels k (child_hangs rows r p k e).0) in
       let a = behind g (child rows r P3) in
@@ -290,8 +290,8 @@ module _ (rows : List Row) (tree : IsTree rows) (slaves : All IsRow rows) where
   -- each slave stands at its position
   pub order_moved : order (renumbered rows) ≡ map (position_of rows) (order rows)
   order_moved =
-      ap (order_from (renumbered rows) (length (renumbered rows))) root_here
-      ∙ ap (λ n. order_from (renumbered rows) n (position_of rows (root rows))) whole
+      ap (subtree_within (renumbered rows) (length (renumbered rows))) root_here
+      ∙ ap (λ n. subtree_within (renumbered rows) n (position_of rows (root rows))) whole
       ∙ order_levels (length rows) (root rows) (root_of rows tree).0
 
   pub order_here : order (renumbered rows) ≡ range_with_len 0 (length rows)

@@ -26,16 +26,16 @@ behind order None = []
 behind order (Some k) = order k
 
 -- a slave, and then the orders of the children at its ports 3, 1 and 2, down to so many levels
-unfoldable pub order_from : List Row → ℕ → ℕ → List ℕ
-order_from rows zero r = []
-order_from rows (suc levels) r =
-    r ∷ (behind (order_from rows levels) (child rows r P3)
-    ++ behind (order_from rows levels) (child rows r P1)
-    ++ behind (order_from rows levels) (child rows r P2))
+unfoldable pub subtree_within : List Row → ℕ → ℕ → List ℕ
+subtree_within rows zero r = []
+subtree_within rows (suc levels) r =
+    r ∷ (behind (subtree_within rows levels) (child rows r P3)
+    ++ behind (subtree_within rows levels) (child rows r P1)
+    ++ behind (subtree_within rows levels) (child rows r P2))
 
 -- the order of the subtree of a slave; n rows have at most n levels
 abbrev pub subtree : List Row → ℕ → List ℕ
-subtree rows r = order_from rows (length rows) r
+subtree rows r = subtree_within rows (length rows) r
 
 abbrev pub is_nowhere : Option Above → Bool
 is_nowhere None = true

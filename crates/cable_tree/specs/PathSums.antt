@@ -13,16 +13,16 @@ detour_to rows span r None = 0
 detour_to rows span r (Some k) = 2 * cable rows k + span k + tf rows r
 
 -- from the arrival at a slave until the frame leaves it by port 0, for a subtree of so many levels
-unfoldable pub span_from : List Row → ℕ → ℕ → ℕ
-span_from rows zero r = 0
-span_from rows (suc levels) r =
+unfoldable pub span_within : List Row → ℕ → ℕ → ℕ
+span_within rows zero r = 0
+span_within rows (suc levels) r =
     tp rows r
-    + (detour_to rows (span_from rows levels) r (child rows r P3)
-    + detour_to rows (span_from rows levels) r (child rows r P1)
-    + detour_to rows (span_from rows levels) r (child rows r P2))
+    + (detour_to rows (span_within rows levels) r (child rows r P3)
+    + detour_to rows (span_within rows levels) r (child rows r P1)
+    + detour_to rows (span_within rows levels) r (child rows r P2))
 
 abbrev pub span : List Row → ℕ → ℕ
-span rows r = span_from rows (length rows) r
+span rows r = span_within rows (length rows) r
 
 abbrev pub detour : List Row → ℕ → Port → ℕ
 detour rows r p = detour_to rows (span rows) r (child rows r p)
@@ -34,16 +34,16 @@ earlier rows r P1 = detour rows r P3
 earlier rows r P2 = detour rows r P3 + detour rows r P1
 
 -- from the sending instant to the arrival at port 0 of a slave, which is so many steps or fewer below the root
-abbrev pub arrive_below : List Row → (ℕ → ℕ) → ℕ → Option Above → ℕ
-arrive_below rows arrive r None = cable rows r
-arrive_below rows arrive r (Some a) = arrive a.row + tp rows a.row + earlier rows a.row a.port + cable rows r
+abbrev pub arrive_step : List Row → (ℕ → ℕ) → ℕ → Option Above → ℕ
+arrive_step rows arrive r None = cable rows r
+arrive_step rows arrive r (Some a) = arrive a.row + tp rows a.row + earlier rows a.row a.port + cable rows r
 
-unfoldable pub arrive_from : List Row → ℕ → ℕ → ℕ
-arrive_from rows zero r = 0
-arrive_from rows (suc steps) r = arrive_below rows (arrive_from rows steps) r (above rows r)
+unfoldable pub arrive_within : List Row → ℕ → ℕ → ℕ
+arrive_within rows zero r = 0
+arrive_within rows (suc steps) r = arrive_step rows (arrive_within rows steps) r (above rows r)
 
 abbrev pub arrive : List Row → ℕ → ℕ
-arrive rows r = arrive_from rows (length rows) r
+arrive rows r = arrive_within rows (length rows) r
 
 -- the instant at which the frame comes back from a child
 abbrev pub back_from : List Row → Option ℕ → Option ℕ

@@ -13,8 +13,8 @@ use Rattle.cable_tree.specs.Segment.{IsTree}
 use Rattle.cable_tree.specs.FrameOrder.{child, order}
 use Rattle.cable_tree.proofs.Levels.{some_same}
 use Rattle.cable_tree.proofs.Rising.{order_within}
-use Rattle.dc_bounds.specs.Weight.{measuring_from, measuring_within, measuring_parent, is_connected, has_earlier, has_later, hop_weight, hops_by, hops_within, is_leaf, weight_below, reaches, is_over, higher_or, meeting_within, meeting, reference, weight_to, weight}
-use Rattle.dc_bounds.specs.Measurable.{branches, leads_from, is_measured_within, is_measurable, unmeasurable}
+use Rattle.dc_bounds.specs.Weight.{measuring_step, measuring_within, measuring_parent, is_connected, has_earlier, has_later, hop_weight, hops_step, hops_within, is_leaf, weight_below, is_over_step, is_over, is_over_within, meeting_step, meeting_within, meeting, reference, weight_to, weight}
+use Rattle.dc_bounds.specs.Measurable.{branches, is_measured_step, is_measured_within, is_measurable, unmeasurable}
 use Rattle.cable_tree.specs.Positions.{IsByPosition, position_of, by_position, renumbered}
 use Rattle.cable_tree.proofs.Renumbered as same
 
@@ -78,11 +78,11 @@ module _ (rows : List Row) (tree : IsTree rows) (slaves : All IsRow rows) where
   module _ (measures at_place : ℕ → Bool) (alike : IsByPosition rows measures at_place) where
     -- the measuring parent
     measuring_at : (g h : ℕ → Option Above) (o : Option Above) → ((a : Above) → o ≡ Some a → (a.row < length rows) × (g (pos a.row) ≡ by_position rows (h a.row)))
-        → measuring_from at_place g (by_position rows o) ≡ by_position rows (measuring_from measures h o)
+        → measuring_step at_place g (by_position rows o) ≡ by_position rows (measuring_step measures h o)
     measuring_at g h None known = refl
     measuring_at g h (Some a) known = by (measures a.row) refl
       where
-        by : (m : Bool) → measures a.row ≡ m → measuring_from at_place g (by_position rows (Some a)) ≡ by_position rows (measuring_from measures h (Some a))
+        by : (m : Bool) → measures a.row ≡ m → measuring_step at_place g (by_position rows (Some a)) ≡ by_position rows (measuring_step measures h (Some a))
         by true e =
             ap (λ m. if m then Some (moved a) else g (pos a.row)) (alike a.row (known a refl).0 ∙ e)
             ∙ sym (ap (λ m. by_position rows (if m then Some a else h a.row)) e)
@@ -95,7 +95,7 @@ module _ (rows : List Row) (tree : IsTree rows) (slaves : All IsRow rows) where
     unfolding measuring_within
     measuring_levels zero r within = refl
     measuring_levels (suc s) r within =
-        ap (measuring_from at_place (measuring_within there at_place s)) (same.above_here rows tree slaves r within)
+        ap (measuring_step at_place (measuring_within there at_place s)) (same.above_here rows tree slaves r within)
         ∙ measuring_at (measuring_within there at_place s) (measuring_within rows measures s) (above rows r)
         (λ a e. let low = tree.parents r a within e in (low, measuring_levels s a.row low))
 
@@ -103,7 +103,7 @@ module _ (rows : List Row) (tree : IsTree rows) (slaves : All IsRow rows) where
     measuring_here r within = ap (λ n. measuring_within there at_place n (pos r)) count ∙ measuring_levels (length rows) r within
 
     parent_at : (a : Above) (g : ℕ → Option Above) (o : Option Above) → ((b : Above) → o ≡ Some b → (b.row < length rows) × (g b.row ≡ Some a → a.row < length rows))
-        → measuring_from measures g o ≡ Some a → a.row < length rows
+        → measuring_step measures g o ≡ Some a → a.row < length rows
     parent_at a g None known found = absurd cc
     parent_at a g (Some b) known found = by (measures b.row) refl
       where
@@ -123,7 +123,7 @@ module _ (rows : List Row) (tree : IsTree rows) (slaves : All IsRow rows) where
 
     -- what can be measured
     leads_at : (g h : ℕ → Bool) (o : Option Above) → ((a : Above) → o ≡ Some a → (a.row < length rows) × (g (pos a.row) ≡ h a.row))
-        → leads_from at_place (branches there) g (by_position rows o) ≡ leads_from measures (branches rows) h o
+        → is_measured_step at_place (branches there) g (by_position rows o) ≡ is_measured_step measures (branches rows) h o
     leads_at g h None known = refl
     leads_at g h (Some a) known =
         let low = (known a refl).0 in
@@ -133,7 +133,7 @@ module _ (rows : List Row) (tree : IsTree rows) (slaves : All IsRow rows) where
     unfolding is_measured_within
     measured_levels zero r within = refl
     measured_levels (suc s) r within =
-        ap (leads_from at_place (branches there) (is_measured_within there at_place s)) (same.above_here rows tree slaves r within)
+        ap (is_measured_step at_place (branches there) (is_measured_within there at_place s)) (same.above_here rows tree slaves r within)
         ∙ leads_at (is_measured_within there at_place s) (is_measured_within rows measures s) (above rows r)
         (λ a e. let low = tree.parents r a within e in (low, measured_levels s a.row low))
 
@@ -142,7 +142,7 @@ module _ (rows : List Row) (tree : IsTree rows) (slaves : All IsRow rows) where
 
     -- the hops
     hops_at : (f g : ℕ → ℕ) (o : Option Above) → ((a : Above) → o ≡ Some a → (a.row < length rows) × (f (pos a.row) ≡ g a.row))
-        → hops_by there f (by_position rows o) ≡ hops_by rows g o
+        → hops_step there f (by_position rows o) ≡ hops_step rows g o
     hops_at f g None known = refl
     hops_at f g (Some a) known = ap₂ (λ x y. x + y) (hop_here a (known a refl).0) (known a refl).1
 
@@ -151,7 +151,7 @@ module _ (rows : List Row) (tree : IsTree rows) (slaves : All IsRow rows) where
     hops_levels c low zero r within = refl
     hops_levels c low (suc s) r within =
         ap₂ (λ b x. if b then 0 else x) (same_test r c within low)
-        (ap (hops_by there (hops_within there at_place (pos c) s)) (measuring_here r within)
+        (ap (hops_step there (hops_within there at_place (pos c) s)) (measuring_here r within)
         ∙ hops_at (hops_within there at_place (pos c) s) (hops_within rows measures c s) (measuring_parent rows measures r)
         (λ a e. let up = parent_low r a within e in (up, hops_levels c low s a.row up)))
 
@@ -162,24 +162,24 @@ module _ (rows : List Row) (tree : IsTree rows) (slaves : All IsRow rows) where
         (ap (λ n. hops_within there at_place (pos c) n (pos r)) count ∙ hops_levels c low (length rows) r within) (leaf_here r within))
 
     -- who is over whom
-    reaches_at : (f g : ℕ → Bool) (o : Option Above) → ((a : Above) → o ≡ Some a → f (pos a.row) ≡ g a.row) → reaches f (by_position rows o) ≡ reaches g o
+    reaches_at : (f g : ℕ → Bool) (o : Option Above) → ((a : Above) → o ≡ Some a → f (pos a.row) ≡ g a.row) → is_over_step f (by_position rows o) ≡ is_over_step g o
     reaches_at f g None known = refl
     reaches_at f g (Some a) known = known a refl
 
-    over_levels : (c : ℕ) → c < length rows → (s r : ℕ) → r < length rows → is_over there at_place (pos c) s (pos r) ≡ is_over rows measures c s r
-    unfolding is_over
+    over_levels : (c : ℕ) → c < length rows → (s r : ℕ) → r < length rows → is_over_within there at_place (pos c) s (pos r) ≡ is_over_within rows measures c s r
+    unfolding is_over_within
     over_levels c low zero r within = refl
     over_levels c low (suc s) r within =
         ap₂ (λ x y. x || y) (same_test r c within low)
-        (ap (reaches (is_over there at_place (pos c) s)) (measuring_here r within)
-        ∙ reaches_at (is_over there at_place (pos c) s) (is_over rows measures c s) (measuring_parent rows measures r)
+        (ap (is_over_step (is_over_within there at_place (pos c) s)) (measuring_here r within)
+        ∙ reaches_at (is_over_within there at_place (pos c) s) (is_over_within rows measures c s) (measuring_parent rows measures r)
         (λ a e. over_levels c low s a.row (parent_low r a within e)))
 
-    over_here : (c : ℕ) → c < length rows → (r : ℕ) → r < length rows → is_over there at_place (pos c) (length there) (pos r) ≡ is_over rows measures c (length rows) r
-    over_here c low r within = ap (λ n. is_over there at_place (pos c) n (pos r)) count ∙ over_levels c low (length rows) r within
+    over_here : (c : ℕ) → c < length rows → (r : ℕ) → r < length rows → is_over there at_place (pos c) (pos r) ≡ is_over rows measures c r
+    over_here c low r within = ap (λ n. is_over_within there at_place (pos c) n (pos r)) count ∙ over_levels c low (length rows) r within
 
     -- where the ways part
-    higher_at : (r : ℕ) (f g : ℕ → ℕ) (o : Option Above) → ((a : Above) → o ≡ Some a → f (pos a.row) ≡ pos (g a.row)) → higher_or (pos r) f (by_position rows o) ≡ pos (higher_or r g o)
+    higher_at : (r : ℕ) (f g : ℕ → ℕ) (o : Option Above) → ((a : Above) → o ≡ Some a → f (pos a.row) ≡ pos (g a.row)) → meeting_step (pos r) f (by_position rows o) ≡ pos (meeting_step r g o)
     higher_at r f g None known = refl
     higher_at r f g (Some a) known = known a refl
 
@@ -191,10 +191,10 @@ module _ (rows : List Row) (tree : IsTree rows) (slaves : All IsRow rows) where
     unfolding meeting_within
     meeting_levels q low zero r within = refl
     meeting_levels q low (suc s) r within =
-        ap (λ b. if b then pos r else higher_or (pos r) (meeting_within there at_place (pos q) s) (measuring_parent there at_place (pos r))) (over_here r within q low)
-        ∙ if_pos (is_over rows measures r (length rows) q) r (higher_or r (meeting_within rows measures q s) (measuring_parent rows measures r))
-        (higher_or (pos r) (meeting_within there at_place (pos q) s) (measuring_parent there at_place (pos r)))
-        (ap (higher_or (pos r) (meeting_within there at_place (pos q) s)) (measuring_here r within)
+        ap (λ b. if b then pos r else meeting_step (pos r) (meeting_within there at_place (pos q) s) (measuring_parent there at_place (pos r))) (over_here r within q low)
+        ∙ if_pos (is_over rows measures r q) r (meeting_step r (meeting_within rows measures q s) (measuring_parent rows measures r))
+        (meeting_step (pos r) (meeting_within there at_place (pos q) s) (measuring_parent there at_place (pos r)))
+        (ap (meeting_step (pos r) (meeting_within there at_place (pos q) s)) (measuring_here r within)
         ∙ higher_at r (meeting_within there at_place (pos q) s) (meeting_within rows measures q s) (measuring_parent rows measures r)
         (λ a e. meeting_levels q low s a.row (parent_low r a within e)))
 
@@ -202,7 +202,7 @@ module _ (rows : List Row) (tree : IsTree rows) (slaves : All IsRow rows) where
     if_low true x y lx ly = lx
     if_low false x y lx ly = ly
 
-    or_low : (r : ℕ) → r < length rows → (g : ℕ → ℕ) (o : Option Above) → ((a : Above) → o ≡ Some a → g a.row < length rows) → higher_or r g o < length rows
+    or_low : (r : ℕ) → r < length rows → (g : ℕ → ℕ) (o : Option Above) → ((a : Above) → o ≡ Some a → g a.row < length rows) → meeting_step r g o < length rows
     or_low r within g None known = within
     or_low r within g (Some a) known = known a refl
 
@@ -210,7 +210,7 @@ module _ (rows : List Row) (tree : IsTree rows) (slaves : All IsRow rows) where
     unfolding meeting_within
     meeting_low q zero r within = within
     meeting_low q (suc s) r within =
-        if_low (is_over rows measures r (length rows) q) r (higher_or r (meeting_within rows measures q s) (measuring_parent rows measures r)) within
+        if_low (is_over rows measures r q) r (meeting_step r (meeting_within rows measures q s) (measuring_parent rows measures r)) within
         (or_low r within (meeting_within rows measures q s) (measuring_parent rows measures r) (λ a e. meeting_low q s a.row (parent_low r a within e)))
 
     meeting_here : (q : ℕ) → q < length rows → (r : ℕ) → r < length rows → meeting there at_place (pos q) (pos r) ≡ pos (meeting rows measures q r)

@@ -2,6 +2,7 @@ pub mod Sizes
 pub mod IntervalFacts
 pub mod Growth
 pub mod Climbing
+pub mod Upwards
 pub mod ByPosition
 pub mod WeightSize
 pub mod Leading

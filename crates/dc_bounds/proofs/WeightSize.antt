@@ -1,54 +1,12 @@
 -- How large a weight can be.
-use Rattle.std.specs.Prelude.{◌≡◌, ℕ, suc, zero, ◌+◌, ◌-◌, ◌*◌, ◌<◌, ◌≤◌, Bool, true, false, nat_eq, if◌then◌else◌, Option, Some, None, MatchOption, List, [], ◌∷◌, length, slice_index}
-use Rattle.std.specs.List.{find}
-use Rattle.std.proofs.Common.{arith, refl, sym, ◌∙◌, subst}
+use Rattle.std.specs.Prelude.{◌≡◌, ℕ, suc, zero, ◌+◌, ◌-◌, ◌*◌, ◌<◌, ◌≤◌, Bool, true, false, nat_eq, if◌then◌else◌, Option, Some, None, List, length}
+use Rattle.std.proofs.Common.{arith, refl}
 use Rattle.cable_tree.specs.declared.port.Above.{Above}
-use Rattle.cable_tree.specs.Row.{Row, above}
-use Rattle.cable_tree.specs.FrameOrder.{order}
-use Rattle.cable_tree.proofs.Rising.{order_within}
+use Rattle.cable_tree.specs.Row.{Row}
 use Rattle.cable_tree.specs.Segment.{IsSegment, IsTree, LeadsToRoot}
-use Rattle.dc_bounds.specs.Weight.{measuring_from, measuring_within, measuring_parent, has_earlier, has_later, hop_weight, hops_by, hops_within, is_leaf, weight_below, weight_to, weight, meeting, reference}
-
--- a parent leads to the root in one step less
-lower : (rows : List Row) (s r : ℕ) (a : Above) → above rows r ≡ Some a → LeadsToRoot rows (suc s) r → LeadsToRoot rows s a.row
-unfolding LeadsToRoot
-lower rows s r a up leads = subst (λ o. MatchOption o (Unit {0}) (λ b. LeadsToRoot rows s b.row)) up leads
-
-none_leads : (rows : List Row) (r : ℕ) → LeadsToRoot rows 0 r → ⊥
-unfolding LeadsToRoot
-none_leads rows r leads = leads
-
-all_more : (o : Option Above) (P Q : Above → Type 0) → ((a : Above) → P a → Q a) → MatchOption o (Unit {0}) P → MatchOption o (Unit {0}) Q
-all_more None P Q more h = tt
-all_more (Some a) P Q more h = more a h
-
-leads_more : (rows : List Row) (s r : ℕ) → LeadsToRoot rows s r → LeadsToRoot rows (suc s) r
-unfolding LeadsToRoot
-leads_more rows zero r leads = absurd leads
-leads_more rows (suc s) r leads = all_more (above rows r) (λ a. LeadsToRoot rows s a.row) (λ a. LeadsToRoot rows (suc s) a.row) (λ a. leads_more rows s a.row) leads
-
-some_same : {A : Type 0} {x y : A} → Some x ≡ Some y → x ≡ y
-some_same e = cc
-
--- the slave that a step up finds leads to the root in one step less
-one_up : (o : Option Above) (measures : ℕ → Bool) (higher : ℕ → Option Above) (rows : List Row) (s : ℕ) (a : Above)
-    → ((b : Above) → higher b.row ≡ Some a → LeadsToRoot rows s b.row → LeadsToRoot rows s a.row)
-    → MatchOption o (Unit {0}) (λ b. LeadsToRoot rows s b.row) → measuring_from measures higher o ≡ Some a → LeadsToRoot rows s a.row
-one_up None measures higher rows s a on leads found = absurd cc
-one_up (Some b) measures higher rows s a on leads found = by (measures b.row) refl
-  where
-    by : (m : Bool) → measures b.row ≡ m → LeadsToRoot rows s a.row
-    by true e = let here : Some b ≡ Some a = sym (rw e refl) ∙ found in subst (λ x. LeadsToRoot rows s x.row) (some_same here) leads
-    by false e = let there : higher b.row ≡ Some a = sym (rw e refl) ∙ found in on b there leads
-
-within_up : (rows : List Row) (measures : ℕ → Bool) (k s r : ℕ) (a : Above) → LeadsToRoot rows (suc s) r → measuring_within rows measures k r ≡ Some a → LeadsToRoot rows s a.row
-unfolding LeadsToRoot measuring_within
-within_up rows measures zero s r a leads found = absurd cc
-within_up rows measures (suc k) zero r a leads found =
-    one_up (above rows r) measures (measuring_within rows measures k) rows 0 a (λ b up none. absurd (none_leads rows b.row none)) leads found
-within_up rows measures (suc k) (suc s) r a leads found =
-    one_up (above rows r) measures (measuring_within rows measures k) rows (suc s) a
-    (λ b up more. leads_more rows s a.row (within_up rows measures k s b.row a more up)) leads found
+use Rattle.dc_bounds.specs.Weight.{measuring_parent, has_earlier, has_later, hop_weight, hops_step, hops_within, is_leaf, weight_below, weight_to, weight, meeting, reference}
+use Rattle.dc_bounds.proofs.FirstClock.{reference_within}
+use Rattle.dc_bounds.proofs.Upwards.{lower_measuring, none_leads}
 
 hop_few : (rows : List Row) (a : Above) → hop_weight rows a ≤ 2
 hop_few rows a = at_most (has_earlier rows a) (has_later rows a)
@@ -60,7 +18,7 @@ hop_few rows a = at_most (has_earlier rows a) (has_later rows a)
     at_most false false = omega arith
 
 by_parent : (rows : List Row) (o : Option Above) (here : Bool) (n : ℕ) (higher : ℕ → ℕ) → ((a : Above) → o ≡ Some a → higher a.row + 2 ≤ n)
-    → (if here then 0 else hops_by rows higher o) ≤ n
+    → (if here then 0 else hops_step rows higher o) ≤ n
 by_parent rows o true n higher low = omega arith
 by_parent rows None false n higher low = omega arith
 by_parent rows (Some a) false n higher low = let rest = low a refl in let hop = hop_few rows a in omega (arith, rest, hop)
@@ -70,10 +28,10 @@ unfolding hops_within
 hops_few rows measures c zero s r leads = omega arith
 hops_few rows measures c (suc k) zero r leads =
     by_parent rows (measuring_parent rows measures r) (nat_eq r c) 0 (hops_within rows measures c k)
-    (λ a up. absurd (none_leads rows a.row (within_up rows measures (length rows) 0 r a leads up)))
+    (λ a up. absurd (none_leads rows a.row (lower_measuring rows measures (length rows) 0 r a up leads)))
 hops_few rows measures c (suc k) (suc s) r leads =
     by_parent rows (measuring_parent rows measures r) (nat_eq r c) (2 * suc s) (hops_within rows measures c k)
-    (λ a up. let rest = hops_few rows measures c k s a.row (within_up rows measures (length rows) (suc s) r a leads up) in omega (arith, rest))
+    (λ a up. let rest = hops_few rows measures c k s a.row (lower_measuring rows measures (length rows) (suc s) r a up leads) in omega (arith, rest))
 
 below_few : (rows : List Row) (measures : ℕ → Bool) (c r : ℕ) → IsTree rows → length rows ≤ 256 → r < length rows → weight_below rows measures c r ≤ 512
 below_few rows measures c r tree few within =
@@ -87,15 +45,6 @@ below_few rows measures c r tree few within =
     at_most false true h low = omega arith
     at_most false false h low = omega arith
 
-find_within : (p : ℕ → Bool) (xs : List ℕ) (n q : ℕ) → ((i : ℕ) → i < length xs → slice_index xs i < n) → find p xs ≡ Some q → q < n
-find_within p [] n q within found = absurd cc
-find_within p (x ∷ xs) n q within found =
-    at (p x) refl (find_within p xs n q (λ i low. within (suc i) (omega arith)))
-  where
-    at : (here : Bool) → p x ≡ here → (find p xs ≡ Some q → q < n) → q < n
-    at true e later = let same : Some x ≡ Some q = sym (rw e refl) ∙ found in subst (λ y. y < n) (some_same same) (within 0 (omega arith))
-    at false e later = later (sym (rw e refl) ∙ found)
-
 pub way_few : (rows : List Row) (measures : ℕ → Bool) (c r : ℕ) → IsSegment rows → r < length rows → weight_below rows measures c r ≤ 512
 way_few rows measures c r segment within = below_few rows measures c r segment.tree segment.few within
 
@@ -105,7 +54,7 @@ weight_few rows measures timed r segment within = to (reference rows timed) refl
     to : (o : Option ℕ) → reference rows timed ≡ o → weight_to rows measures r o ≤ 1024
     to None e = omega arith
     to (Some q) e =
-        let clock = find_within timed (order rows) (length rows) q (order_within rows segment.tree segment.slaves) e in
+        let clock = reference_within rows segment.tree segment.slaves timed q e in
         let here = below_few rows measures (meeting rows measures q r) r segment.tree segment.few within in
         let there = below_few rows measures (meeting rows measures q r) q segment.tree segment.few clock in
         omega (arith, here, there)

@@ -6,13 +6,13 @@ use Rattle.std.proofs.lemmas.Nat.{le-div}
 use Rattle.cable_tree.specs.Row.{Row}
 use Rattle.dc_bounds.specs.TickBounds.{tick_gap}
 use Rattle.dc_bounds.specs.DelayBound.{delay_bound}
-use Rattle.dc_bounds.specs.Weight.{hops_within, is_leaf, is_over, meeting, meeting_within, weight_below, weight_to, weight, reference}
+use Rattle.dc_bounds.specs.Weight.{hops_within, is_leaf, is_over_within, meeting, meeting_within, weight_below, weight_to, weight, reference}
 
 same : (r : ℕ) → nat_eq r r ≡ true
 same r = grind (arith, nat_tests)
 
-over_itself : (rows : List Row) (measures : ℕ → Bool) (r n : ℕ) → is_over rows measures r (suc n) r ≡ true
-unfolding is_over
+over_itself : (rows : List Row) (measures : ℕ → Bool) (r n : ℕ) → is_over_within rows measures r (suc n) r ≡ true
+unfolding is_over_within
 over_itself rows measures r n = rw (same r) refl
 
 -- the way from the reference upwards meets that to the reference at once

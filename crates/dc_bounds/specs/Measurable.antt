@@ -16,13 +16,13 @@ abbrev pub branches : List Row → ℕ → Bool
 branches rows r = nat_le 2 (children rows r)
 
 -- among so many slaves above, one measures, and none that comes before it branches
-abbrev pub leads_from : (ℕ → Bool) → (ℕ → Bool) → (ℕ → Bool) → Option Above → Bool
-leads_from measures branches higher None = false
-leads_from measures branches higher (Some a) = measures a.row || (not (branches a.row) && higher a.row)
+abbrev pub is_measured_step : (ℕ → Bool) → (ℕ → Bool) → (ℕ → Bool) → Option Above → Bool
+is_measured_step measures branches higher None = false
+is_measured_step measures branches higher (Some a) = measures a.row || (not (branches a.row) && higher a.row)
 
 unfoldable pub is_measured_within : List Row → (ℕ → Bool) → ℕ → ℕ → Bool
 is_measured_within rows measures zero r = false
-is_measured_within rows measures (suc steps) r = leads_from measures (branches rows) (is_measured_within rows measures steps) (above rows r)
+is_measured_within rows measures (suc steps) r = is_measured_step measures (branches rows) (is_measured_within rows measures steps) (above rows r)
 
 -- the slave has a measuring parent, and no slave between the two has more than one child
 abbrev pub is_measurable : List Row → (ℕ → Bool) → ℕ → Bool

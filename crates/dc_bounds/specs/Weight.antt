@@ -9,13 +9,13 @@ use Rattle.cable_tree.specs.Row.{Row, above}
 use Rattle.cable_tree.specs.FrameOrder.{child, order}
 
 -- the nearest slave that measures among so many above, and its port on the way
-abbrev pub measuring_from : (ℕ → Bool) → (ℕ → Option Above) → Option Above → Option Above
-measuring_from measures higher None = None
-measuring_from measures higher (Some a) = if measures a.row then Some a else higher a.row
+abbrev pub measuring_step : (ℕ → Bool) → (ℕ → Option Above) → Option Above → Option Above
+measuring_step measures higher None = None
+measuring_step measures higher (Some a) = if measures a.row then Some a else higher a.row
 
 unfoldable pub measuring_within : List Row → (ℕ → Bool) → ℕ → ℕ → Option Above
 measuring_within rows measures zero r = None
-measuring_within rows measures (suc steps) r = measuring_from measures (measuring_within rows measures steps) (above rows r)
+measuring_within rows measures (suc steps) r = measuring_step measures (measuring_within rows measures steps) (above rows r)
 
 -- the measuring parent
 abbrev pub measuring_parent : List Row → (ℕ → Bool) → ℕ → Option Above
@@ -47,14 +47,14 @@ abbrev pub hop_weight : List Row → Above → ℕ
 hop_weight rows a = (if has_earlier rows a then 1 else 0) + (if has_later rows a then 1 else 0)
 
 -- the sum of b over the hops from slave c to slave r, which is c or at most so many hops below it
-abbrev pub hops_by : List Row → (ℕ → ℕ) → Option Above → ℕ
-hops_by rows higher None = 0
-hops_by rows higher (Some a) = hop_weight rows a + higher a.row
+abbrev pub hops_step : List Row → (ℕ → ℕ) → Option Above → ℕ
+hops_step rows higher None = 0
+hops_step rows higher (Some a) = hop_weight rows a + higher a.row
 
 unfoldable pub hops_within : List Row → (ℕ → Bool) → ℕ → ℕ → ℕ → ℕ
 hops_within rows measures c zero r = 0
 hops_within rows measures c (suc hops) r =
-    if nat_eq r c then 0 else hops_by rows (hops_within rows measures c hops) (measuring_parent rows measures r)
+    if nat_eq r c then 0 else hops_step rows (hops_within rows measures c hops) (measuring_parent rows measures r)
 
 abbrev pub is_leaf : List Row → ℕ → Bool
 is_leaf rows r = not (is_connected rows r P3 || is_connected rows r P1 || is_connected rows r P2)
@@ -65,25 +65,29 @@ weight_below rows measures c r =
     if nat_eq r c then 0 else 1 + hops_within rows measures c (length rows) r + (if is_leaf rows r then 0 else 1)
 
 -- c is slave r or stands above it, by at most so many hops
-abbrev pub reaches : (ℕ → Bool) → Option Above → Bool
-reaches higher None = false
-reaches higher (Some a) = higher a.row
+abbrev pub is_over_step : (ℕ → Bool) → Option Above → Bool
+is_over_step higher None = false
+is_over_step higher (Some a) = higher a.row
 
-unfoldable pub is_over : List Row → (ℕ → Bool) → ℕ → ℕ → ℕ → Bool
-is_over rows measures c zero r = false
-is_over rows measures c (suc hops) r =
-    nat_eq r c || reaches (is_over rows measures c hops) (measuring_parent rows measures r)
+unfoldable pub is_over_within : List Row → (ℕ → Bool) → ℕ → ℕ → ℕ → Bool
+is_over_within rows measures c zero r = false
+is_over_within rows measures c (suc hops) r =
+    nat_eq r c || is_over_step (is_over_within rows measures c hops) (measuring_parent rows measures r)
+
+-- c is slave r or stands above it
+abbrev pub is_over : List Row → (ℕ → Bool) → ℕ → ℕ → Bool
+is_over rows measures c r = is_over_within rows measures c (length rows) r
 
 -- the deepest slave that is slave r, or measures above it, and is over the reference
-abbrev pub higher_or : ℕ → (ℕ → ℕ) → Option Above → ℕ
-higher_or r higher None = r
-higher_or r higher (Some a) = higher a.row
+abbrev pub meeting_step : ℕ → (ℕ → ℕ) → Option Above → ℕ
+meeting_step r higher None = r
+meeting_step r higher (Some a) = higher a.row
 
 unfoldable pub meeting_within : List Row → (ℕ → Bool) → ℕ → ℕ → ℕ → ℕ
 meeting_within rows measures reference zero r = r
 meeting_within rows measures reference (suc hops) r =
-    if is_over rows measures r (length rows) reference then r
-    else higher_or r (meeting_within rows measures reference hops) (measuring_parent rows measures r)
+    if is_over rows measures r reference then r
+    else meeting_step r (meeting_within rows measures reference hops) (measuring_parent rows measures r)
 
 abbrev pub meeting : List Row → (ℕ → Bool) → ℕ → ℕ → ℕ
 meeting rows measures reference r = meeting_within rows measures reference (length rows) r

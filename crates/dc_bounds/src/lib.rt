@@ -7,7 +7,8 @@
 //! docs/DEFINITIONS.md: G, Q and nmin (`TickBounds`), μ, Z, N and K (`LockNumbers`), B (`DelayBound`), X and W
 //! (`CopyBound`), lead, U, the start and the frames of a run (`RunNumbers`). None takes memory. What the
 //! formulas mean for clocks is in the [`laws`], and that a tree may be told by positions in place of rows
-//! in [`by_position`].
+//! in [`by_position`]. The way up to the measuring parent goes over whatever tells where slaves hang, which
+//! is a [`Topology`].
 #![tactic(auto)]
 
 pub mod by_position;
@@ -16,14 +17,18 @@ mod delays;
 pub mod laws;
 mod lock;
 mod measurable;
+mod measuring;
 mod run;
 mod ticks;
+mod topology;
 mod weights;
 
 pub use copies::{copy_bound, window};
 pub use delays::delay_bound;
 pub use lock::{lock_count, lock_step, reach_fs};
 pub use measurable::unmeasurable;
+pub use measuring::{is_measurable, measuring_parent};
 pub use run::{lead_ns, run_frames};
 pub use ticks::{jump, least_ticks, tick_gap};
+pub use topology::Topology;
 pub use weights::{reference, weight};

@@ -1,10 +1,10 @@
 ghost use Rattle.std.specs.Prelude.{◌≡◌, ◌<◌, length, IfSome};
 ghost use Rattle.cable_tree.specs.FrameOrder.{order};
-ghost use Rattle.dc_bounds.specs.Measurable.{branches, is_measurable, unmeasurable};
+ghost use Rattle.dc_bounds.specs.Measurable.{unmeasurable};
 ghost use Rattle.dc_bounds.specs.Weight.{flag};
 
-use crate::weights::is_connected;
-use cable_tree::{Port, Tree};
+use crate::measuring::is_measurable;
+use cable_tree::Tree;
 
 /// The first slave in frame order that cannot be measured: it measures, it is not the first one that
 /// does, and above it none measures, or between it and the nearest one that does stands a slave with
@@ -26,37 +26,4 @@ pub fn unmeasurable(tree: &Tree, measuring: &[bool]) -> Option<u16>
         is_first = false;
     }
     None
-}
-
-// Whether one measures above `row`, and none between the two has more than one child.
-fn is_measurable(tree: &Tree, measuring: &[bool], row: u16) -> bool
-    requires measuring { length measuring.now ≡ length tree.now }
-    requires row { row < length tree.now }
-    ensures { result ≡ is_measurable tree.now (flag measuring.now) row }
-{
-    let mut here = row;
-    for _ in 0..tree.len() {
-        let Some(above) = tree.above(here) else {
-            return false;
-        };
-        if measuring[usize::from(above.row)] {
-            return true;
-        }
-        if branches(tree, above.row) {
-            return false;
-        }
-        here = above.row;
-    }
-    false
-}
-
-// Whether more than one slave hangs at the ports of a slave.
-fn branches(tree: &Tree, row: u16) -> bool
-    requires { row < length tree.now }
-    ensures { result ≡ branches tree.now row }
-{
-    let children = u8::from(is_connected(tree, row, Port::P3))
-        + u8::from(is_connected(tree, row, Port::P1))
-        + u8::from(is_connected(tree, row, Port::P2));
-    children >= 2
 }

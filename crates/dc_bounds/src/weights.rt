@@ -1,6 +1,8 @@
 ghost use Rattle.std.specs.Prelude.{◌≡◌, ℕ, ◌<◌, ◌≤◌, ◌*◌, length, IfSome};
-ghost use Rattle.dc_bounds.specs.Weight.{flag, has_earlier, has_later, hop_weight, hops_within, is_connected, is_leaf, is_over, measuring_parent, meeting, reference, weight, weight_below};
+ghost use Rattle.dc_bounds.specs.Weight.{flag, has_earlier, has_later, hop_weight, hops_within, is_leaf, is_over, meeting, reference, weight, weight_below};
 
+use crate::measuring::measuring_parent;
+use crate::topology::Topology;
 use cable_tree::{Above, Port, Tree};
 
 /// w: how many differences of two latched times stand between the measured delay of the clock at `row`
@@ -60,7 +62,7 @@ fn meeting(tree: &Tree, measuring: &[bool], reference: u16, row: u16) -> u16
 fn is_over(tree: &Tree, measuring: &[bool], over: u16, row: u16) -> bool
     requires measuring { length measuring.now ≡ length tree.now }
     requires row { row < length tree.now }
-    ensures { result ≡ is_over tree.now (flag measuring.now) over (length tree.now) row }
+    ensures { result ≡ is_over tree.now (flag measuring.now) over row }
 {
     let mut here = row;
     for _ in 0..tree.len() {
@@ -127,9 +129,9 @@ fn has_earlier(tree: &Tree, above: Above) -> bool
 {
     match above.port {
         Port::P3 => false,
-        Port::P1 => is_connected(tree, above.row, Port::P3),
-        Port::P2 => is_connected(tree, above.row, Port::P3)
-            || is_connected(tree, above.row, Port::P1),
+        Port::P1 => tree.is_connected(above.row, Port::P3),
+        Port::P2 => tree.is_connected(above.row, Port::P3)
+            || tree.is_connected(above.row, Port::P1),
     }
 }
 
@@ -139,9 +141,9 @@ fn has_later(tree: &Tree, above: Above) -> bool
     ensures { result ≡ has_later tree.now above }
 {
     match above.port {
-        Port::P3 => is_connected(tree, above.row, Port::P1)
-            || is_connected(tree, above.row, Port::P2),
-        Port::P1 => is_connected(tree, above.row, Port::P2),
+        Port::P3 => tree.is_connected(above.row, Port::P1)
+            || tree.is_connected(above.row, Port::P2),
+        Port::P1 => tree.is_connected(above.row, Port::P2),
         Port::P2 => false,
     }
 }
@@ -151,33 +153,7 @@ fn is_leaf(tree: &Tree, row: u16) -> bool
     requires { row < length tree.now }
     ensures { result ≡ is_leaf tree.now row }
 {
-    !(is_connected(tree, row, Port::P3)
-        || is_connected(tree, row, Port::P1)
-        || is_connected(tree, row, Port::P2))
-}
-
-// Whether a slave hangs at this port.
-pub(crate) fn is_connected(tree: &Tree, row: u16, port: Port) -> bool
-    requires { row < length tree.now }
-    ensures { result ≡ is_connected tree.now row port }
-{
-    tree.port_time(row, port).is_some()
-}
-
-// The nearest slave above `row` that measures, and its port on the way.
-fn measuring_parent(tree: &Tree, measuring: &[bool], row: u16) -> Option<Above>
-    requires measuring { length measuring.now ≡ length tree.now }
-    requires row { row < length tree.now }
-    ensures is { result ≡ measuring_parent tree.now (flag measuring.now) row }
-    ensures row { IfSome result (λ a. a.row < length tree.now) }
-{
-    let mut here = row;
-    for _ in 0..tree.len() {
-        let above = tree.above(here)?;
-        if measuring[usize::from(above.row)] {
-            return Some(above);
-        }
-        here = above.row;
-    }
-    None
+    !(tree.is_connected(row, Port::P3)
+        || tree.is_connected(row, Port::P1)
+        || tree.is_connected(row, Port::P2))
 }

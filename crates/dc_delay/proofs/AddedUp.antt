@@ -12,9 +12,10 @@ use Rattle.cable_tree.specs.Hops.{previous, last_port, lap, lap_before, forwardi
 use Rattle.dc_bounds.specs.TickFacts.{IsNear}
 use Rattle.dc_bounds.specs.Weight.{measuring_parent, hop_weight, hops_within, is_leaf, is_over, weight_below}
 use Rattle.dc_delay.specs.ShapeRows.{tp_ns, tf_ns}
-use Rattle.dc_delay.specs.MeasuredDelay.{ahead, back, hop_ahead, hop_back, latched_before, forwarding_ns, passed, summed_from, turn}
+use Rattle.dc_delay.specs.MeasuredDelay.{ahead, back, hop_ahead, hop_back, latched_before, forwarding_ns, passed, summed_step, turn}
 use Rattle.dc_delay.specs.LatchLaw.{AreAllLatched, AreMeasurable}
-use Rattle.dc_delay.proofs.Recursions.{climb_measuring, parent_measures, parent_within, hops_is, over_is, summed_is}
+use Rattle.dc_bounds.proofs.Upwards.{parent_measures, parent_within}
+use Rattle.dc_delay.proofs.Recursions.{climb_measuring, hops_is, over_is, summed_is}
 use Rattle.dc_delay.proofs.TrueHops.{port_used, hopped}
 use Rattle.dc_delay.proofs.HopErrors.{hop_error, turn_near, turned, spanned, near_same}
 
@@ -45,7 +46,7 @@ module _ (rows : List Row) (tree : IsTree rows) (measures : ℕ → Bool) (laps 
       ((1 + hops r) * g)
 
   abbrev IsAddedUp : ℕ → Type 0
-  IsAddedUp r = measures r ≡ true → is_over rows measures c (length rows) r ≡ true → IsAdded r
+  IsAddedUp r = measures r ≡ true → is_over rows measures c r ≡ true → IsAdded r
 
   start : (r : ℕ) → r < length rows → measures r ≡ true → r ≡ c → IsAdded r
   start r within measured same =
@@ -83,8 +84,8 @@ module _ (rows : List Row) (tree : IsTree rows) (measures : ℕ → Bool) (laps 
       (spanned rows a.row tree inside a.port used.0 used.1)
       error
       (omega (arith, hop, x)) in
-      let sum = summed_is rows tree measures (hop_ahead rows measures laps) r within ∙ ap (summed_from (hop_ahead rows measures laps) r (ahead rows measures laps)) up in
-      let taken = summed_is rows tree measures (hop_back rows measures laps) r within ∙ ap (summed_from (hop_back rows measures laps) r (back rows measures laps)) up in
+      let sum = summed_is rows tree measures (hop_ahead rows measures laps) r within ∙ ap (summed_step (hop_ahead rows measures laps) r (ahead rows measures laps)) up in
+      let taken = summed_is rows tree measures (hop_back rows measures laps) r within ∙ ap (summed_step (hop_back rows measures laps) r (back rows measures laps)) up in
       let more : hops r ≡ hop_weight rows a + hops a.row = hops_is rows tree measures c r within ∙ rw (away, up) refl in
       let w : (1 + hops r) * g ≡ budget + weight = rw more (omega arith) in
       record { above = omega (arith, go.above, sum, taken, w); below = omega (arith, go.below, sum, taken, w) }
@@ -93,10 +94,10 @@ module _ (rows : List Row) (tree : IsTree rows) (measures : ℕ → Bool) (laps 
       → (same : Bool) → nat_eq r c ≡ same → IsAddedUp r
   up_to r within o up higher true same = λ measured over. start r within measured (eqb-true r c same)
   up_to r within None up higher false away = λ measured over.
-      let none : is_over rows measures c (length rows) r ≡ false = over_is rows tree measures c r within ∙ rw (away, up) refl in
+      let none : is_over rows measures c r ≡ false = over_is rows tree measures c r within ∙ rw (away, up) refl in
       absurd (false≢true (sym none ∙ over))
   up_to r within (Some a) up higher false away = λ measured over.
-      let rest : is_over rows measures c (length rows) r ≡ is_over rows measures c (length rows) a.row = over_is rows tree measures c r within ∙ rw (away, up) refl in
+      let rest : is_over rows measures c r ≡ is_over rows measures c a.row = over_is rows tree measures c r within ∙ rw (away, up) refl in
       next r a within measured away up (higher a up (parent_measures rows measures (length rows) r a up) (sym rest ∙ over))
 
   -- with S of the last one
@@ -104,7 +105,7 @@ module _ (rows : List Row) (tree : IsTree rows) (measures : ℕ → Bool) (laps 
   added_up = climb_measuring rows tree measures IsAddedUp (λ r within higher. up_to r within (measuring_parent rows measures r) refl higher (nat_eq r c) refl)
 
   -- and without
-  pub weighed : (r : ℕ) → r < length rows → measures r ≡ true → is_over rows measures c (length rows) r ≡ true
+  pub weighed : (r : ℕ) → r < length rows → measures r ≡ true → is_over rows measures c r ≡ true
       → IsNear (1000000 * (ahead rows measures laps r + back rows measures laps c) + 2 * arrive rows c)
       (1000000 * (back rows measures laps r + ahead rows measures laps c) + 2 * arrive rows r)
       (weight_below rows measures c r * g)

@@ -10,12 +10,12 @@ use Rattle.cable_tree.specs.declared.port.Above.{Above}
 use Rattle.cable_tree.specs.declared.port.Port.{Port}
 use Rattle.cable_tree.specs.declared.port.Port.TheVariants.{P1, P2, P3}
 use Rattle.cable_tree.specs.Row.{Row, no_row, above}
-use Rattle.cable_tree.specs.FrameOrder.{is_at, is_nowhere, child, behind, order_from, order, root}
+use Rattle.cable_tree.specs.FrameOrder.{is_at, is_nowhere, child, behind, subtree_within, order, root}
 use Rattle.cable_tree.specs.Hops.{or_before, previous, last_port}
-use Rattle.dc_bounds.specs.Weight.{measuring_from, measuring_within, measuring_parent}
-use Rattle.dc_bounds.specs.Measurable.{branches, leads_from, is_measured_within, is_measurable, unmeasurable}
+use Rattle.dc_bounds.specs.Weight.{measuring_step, measuring_within, measuring_parent}
+use Rattle.dc_bounds.specs.Measurable.{branches, is_measured_step, is_measured_within, is_measurable, unmeasurable}
 use Rattle.dc_delay.specs.ShapeRows.{hanging, row_of, rows_of, places_of, kind_of, kinds_of, tp_ns, tf_ns}
-use Rattle.dc_delay.specs.MeasuredDelay.{latched_before, forwarding_ns, turn_by, passed_from, passed_within, passed, hop_ahead, hop_back, summed_from, summed_within, summed, ahead, back, delay_from, delay, delays_from, delay_list}
+use Rattle.dc_delay.specs.MeasuredDelay.{latched_before, forwarding_ns, turn_by, passed_step, passed_within, passed, hop_ahead, hop_back, summed_step, summed_within, summed, ahead, back, delay_from, delay, delays_from, delay_list}
 
 -- the first row that passes a test of where it hangs
 module _ (f : Row → Row) (keeps : (row : Row) → (f row).above ≡ row.above) where
@@ -76,28 +76,28 @@ module _ (rows others : List Row) (alike : HangAlike rows others) where
       ∙ ap (λ o. nat_le 2 ((if is_some (child others r P3) then 1 else 0) + (if is_some o then 1 else 0) + (if is_some (child rows r P2) then 1 else 0))) (alike.child r P1)
       ∙ ap (λ o. nat_le 2 ((if is_some (child others r P3) then 1 else 0) + (if is_some (child others r P1) then 1 else 0) + (if is_some o then 1 else 0))) (alike.child r P2)
 
-  order_levels : (levels r : ℕ) → order_from rows levels r ≡ order_from others levels r
-  unfolding order_from
+  order_levels : (levels r : ℕ) → subtree_within rows levels r ≡ subtree_within others levels r
+  unfolding subtree_within
   order_levels zero r = refl
   order_levels (suc levels) r =
-      let deeper : order_from rows levels ≡ order_from others levels = fun_ext (λ k. order_levels levels k) in
+      let deeper : subtree_within rows levels ≡ subtree_within others levels = fun_ext (λ k. order_levels levels k) in
       ap (λ f. r ∷ (behind f (child rows r P3) ++ behind f (child rows r P1) ++ behind f (child rows r P2))) deeper
-      ∙ ap (λ o. r ∷ (behind (order_from others levels) o ++ behind (order_from others levels) (child rows r P1) ++ behind (order_from others levels) (child rows r P2))) (alike.child r P3)
-      ∙ ap (λ o. r ∷ (behind (order_from others levels) (child others r P3) ++ behind (order_from others levels) o ++ behind (order_from others levels) (child rows r P2))) (alike.child r P1)
-      ∙ ap (λ o. r ∷ (behind (order_from others levels) (child others r P3) ++ behind (order_from others levels) (child others r P1) ++ behind (order_from others levels) o)) (alike.child r P2)
+      ∙ ap (λ o. r ∷ (behind (subtree_within others levels) o ++ behind (subtree_within others levels) (child rows r P1) ++ behind (subtree_within others levels) (child rows r P2))) (alike.child r P3)
+      ∙ ap (λ o. r ∷ (behind (subtree_within others levels) (child others r P3) ++ behind (subtree_within others levels) o ++ behind (subtree_within others levels) (child rows r P2))) (alike.child r P1)
+      ∙ ap (λ o. r ∷ (behind (subtree_within others levels) (child others r P3) ++ behind (subtree_within others levels) (child others r P1) ++ behind (subtree_within others levels) o)) (alike.child r P2)
 
   pub order_same : order rows ≡ order others
   order_same =
-      order_levels (length rows) (root rows) ∙ ap (λ n. order_from others n (root rows)) alike.whole ∙ ap (order_from others (length others)) alike.root
+      order_levels (length rows) (root rows) ∙ ap (λ n. subtree_within others n (root rows)) alike.whole ∙ ap (subtree_within others (length others)) alike.root
 
   module _ (measures : ℕ → Bool) where
     measured_steps : (steps r : ℕ) → is_measured_within rows measures steps r ≡ is_measured_within others measures steps r
     unfolding is_measured_within
     measured_steps zero r = refl
     measured_steps (suc steps) r =
-        ap (λ h. leads_from measures (branches rows) h (above rows r)) (fun_ext (λ q. measured_steps steps q))
-        ∙ ap (λ b. leads_from measures b (is_measured_within others measures steps) (above rows r)) (fun_ext branches_same)
-        ∙ ap (leads_from measures (branches others) (is_measured_within others measures steps)) (alike.above r)
+        ap (λ h. is_measured_step measures (branches rows) h (above rows r)) (fun_ext (λ q. measured_steps steps q))
+        ∙ ap (λ b. is_measured_step measures b (is_measured_within others measures steps) (above rows r)) (fun_ext branches_same)
+        ∙ ap (is_measured_step measures (branches others) (is_measured_within others measures steps)) (alike.above r)
 
     measured_same : (r : ℕ) → is_measurable rows measures r ≡ is_measurable others measures r
     measured_same r = measured_steps (length rows) r ∙ ap (λ n. is_measured_within others measures n r) alike.whole
@@ -109,8 +109,8 @@ module _ (rows others : List Row) (alike : HangAlike rows others) where
     unfolding measuring_within
     parent_steps zero r = refl
     parent_steps (suc steps) r =
-        ap (λ h. measuring_from measures h (above rows r)) (fun_ext (λ q. parent_steps steps q))
-        ∙ ap (measuring_from measures (measuring_within others measures steps)) (alike.above r)
+        ap (λ h. measuring_step measures h (above rows r)) (fun_ext (λ q. parent_steps steps q))
+        ∙ ap (measuring_step measures (measuring_within others measures steps)) (alike.above r)
 
     parent_same : (r : ℕ) → measuring_parent rows measures r ≡ measuring_parent others measures r
     parent_same r = parent_steps (length rows) r ∙ ap (λ n. measuring_within others measures n r) alike.whole
@@ -119,9 +119,9 @@ module _ (rows others : List Row) (alike : HangAlike rows others) where
     unfolding passed_within
     passed_steps number number' e zero r = refl
     passed_steps number number' e (suc steps) r =
-        ap (λ h. passed_from measures number h (above rows r)) (fun_ext (λ q. passed_steps number number' e steps q))
-        ∙ ap (λ f. passed_from measures f (passed_within others measures number' steps) (above rows r)) e
-        ∙ ap (passed_from measures number' (passed_within others measures number' steps)) (alike.above r)
+        ap (λ h. passed_step measures number h (above rows r)) (fun_ext (λ q. passed_steps number number' e steps q))
+        ∙ ap (λ f. passed_step measures f (passed_within others measures number' steps) (above rows r)) e
+        ∙ ap (passed_step measures number' (passed_within others measures number' steps)) (alike.above r)
 
     passed_same : (number number' : ℕ → ℕ) → number ≡ number' → (r : ℕ) → passed rows measures number r ≡ passed others measures number' r
     passed_same number number' e r = passed_steps number number' e (length rows) r ∙ ap (λ n. passed_within others measures number' n r) alike.whole
@@ -131,11 +131,11 @@ module _ (rows others : List Row) (alike : HangAlike rows others) where
     unfolding summed_within
     summed_steps number number' e zero r = refl
     summed_steps number number' e (suc hops) r =
-        ap (λ h. summed_from number r h (measuring_parent rows measures r)) (fun_ext (λ q. summed_steps number number' e hops q))
-        ∙ ap (summed_from number r (summed_within others measures number' hops)) (parent_same r)
+        ap (λ h. summed_step number r h (measuring_parent rows measures r)) (fun_ext (λ q. summed_steps number number' e hops q))
+        ∙ ap (summed_step number r (summed_within others measures number' hops)) (parent_same r)
         ∙ by (summed_within others measures number' hops) (measuring_parent others measures r)
       where
-        by : (h : ℕ → ℕ) (o : Option Above) → summed_from number r h o ≡ summed_from number' r h o
+        by : (h : ℕ → ℕ) (o : Option Above) → summed_step number r h o ≡ summed_step number' r h o
         by h None = refl
         by h (Some a) = ap (λ n. h a.row + n) (e a r)
 

@@ -16,13 +16,14 @@ use Rattle.cable_tree.proofs.Members.{place_of}
 use Rattle.dc_bounds.specs.DelayBound.{delay_bound}
 use Rattle.dc_bounds.specs.TickBounds.{tick_gap}
 use Rattle.dc_bounds.specs.TickFacts.{IsNear}
-use Rattle.dc_bounds.specs.Weight.{measuring_parent, is_over, reaches, higher_or, meeting, reference, weight, weight_below, weight_to}
+use Rattle.dc_bounds.specs.Weight.{measuring_parent, is_over, is_over_step, meeting_step, meeting, reference, weight, weight_below, weight_to}
 use Rattle.dc_bounds.specs.Measurable.{unmeasurable}
 use Rattle.dc_bounds.proofs.FirstClock.{reference_within, reference_timed, reference_first}
 use Rattle.dc_bounds.proofs.Weightless.{weightless}
 use Rattle.dc_delay.specs.MeasuredDelay.{ahead, back, delay, delay_from}
 use Rattle.dc_delay.specs.LatchLaw.{AreAllLatched}
-use Rattle.dc_delay.proofs.Recursions.{climb_measuring, parent_measures, over_is, meeting_is}
+use Rattle.dc_bounds.proofs.Upwards.{parent_measures}
+use Rattle.dc_delay.proofs.Recursions.{climb_measuring, over_is, meeting_is}
 use Rattle.dc_delay.proofs.AddedUp.{weighed}
 use Rattle.dc_delay.proofs.Order.{has_parent, measurable_after, are_measurable}
 
@@ -55,13 +56,13 @@ reference_alone rows measures timed q first = (
 
 module _ (rows : List Row) (tree : IsTree rows) (slaves : All IsRow rows) (measures : ℕ → Bool) (none : unmeasurable rows measures (order rows) ≡ None) where
   abbrev over : ℕ → ℕ → Bool
-  over c r = is_over rows measures c (length rows) r
+  over c r = is_over rows measures c r
 
   over_self : (r : ℕ) → r < length rows → over r r ≡ true
   over_self r within = let here : nat_eq r r ≡ true = search (rules, nat_tests) in over_is rows tree measures r r within ∙ rw here refl
 
   over_higher : (c r : ℕ) (a : Above) → r < length rows → measuring_parent rows measures r ≡ Some a → over c a.row ≡ true → over c r ≡ true
-  over_higher c r a within up higher = over_is rows tree measures c r within ∙ ap (λ o. nat_eq r c || reaches (over c) o) up ∙ ap (λ b. nat_eq r c || b) higher ∙ or_true (nat_eq r c)
+  over_higher c r a within up higher = over_is rows tree measures c r within ∙ ap (λ o. nat_eq r c || is_over_step (over c) o) up ∙ ap (λ b. nat_eq r c || b) higher ∙ or_true (nat_eq r c)
     where
       or_true : (b : Bool) → (b || true) ≡ true
       or_true true = refl
@@ -91,7 +92,7 @@ module _ (rows : List Row) (tree : IsTree rows) (slaves : All IsRow rows) (measu
 
   under_at : (c : ℕ) → c < length rows → measures c ≡ true → measuring_parent rows measures c ≡ None
       → (r : ℕ) → r < length rows → ((a : Above) → measuring_parent rows measures r ≡ Some a → IsUnder c a.row) → (same : Bool) → nat_eq r c ≡ same → IsUnder c r
-  under_at c c_within c_measures top r within higher true same = λ measured. over_is rows tree measures c r within ∙ ap (λ b. b || reaches (over c) (measuring_parent rows measures r)) same
+  under_at c c_within c_measures top r within higher true same = λ measured. over_is rows tree measures c r within ∙ ap (λ b. b || is_over_step (over c) (measuring_parent rows measures r)) same
   under_at c c_within c_measures top r within higher false other = λ measured.
       elim (apart c r c_within within other) [
         | inl first ↦
@@ -116,11 +117,11 @@ module _ (rows : List Row) (tree : IsTree rows) (slaves : All IsRow rows) (measu
     meets_at : (r : ℕ) → r < length rows → (o : Option Above) → measuring_parent rows measures r ≡ o → ((a : Above) → measuring_parent rows measures r ≡ Some a → Meets a.row)
         → (b : Bool) → over r q ≡ b → Meets r
     meets_at r within o up higher true e = λ measured.
-        let here : meet r ≡ r = meeting_is rows tree measures q r within ∙ ap (λ b. if b then r else higher_or r meet (measuring_parent rows measures r)) e in
+        let here : meet r ≡ r = meeting_is rows tree measures q r within ∙ ap (λ b. if b then r else meeting_step r meet (measuring_parent rows measures r)) e in
         (ap (λ c. over c q) here ∙ e, ap (λ c. over c r) here ∙ over_self r within)
     meets_at r within None up higher false e = λ measured. absurd (false≢true (sym e ∙ under r within measured up q q_within q_measures))
     meets_at r within (Some a) up higher false e = λ measured.
-        let there : meet r ≡ meet a.row = meeting_is rows tree measures q r within ∙ ap (λ b. if b then r else higher_or r meet (measuring_parent rows measures r)) e ∙ ap (higher_or r meet) up in
+        let there : meet r ≡ meet a.row = meeting_is rows tree measures q r within ∙ ap (λ b. if b then r else meeting_step r meet (measuring_parent rows measures r)) e ∙ ap (meeting_step r meet) up in
         let above = higher a up (parent_measures rows measures (length rows) r a up) in
         (ap (λ c. over c q) there ∙ above.0, ap (λ c. over c r) there ∙ over_higher (meet a.row) r a within up above.1)
 

@@ -12,10 +12,11 @@ use Rattle.cable_tree.proofs.Children.{child_is}
 use Rattle.cable_tree.proofs.Levels.{arrive_at_child}
 use Rattle.cable_tree.proofs.Rising.{order_pair, tp_some}
 use Rattle.cable_tree.proofs.Members.{place_of}
-use Rattle.dc_bounds.specs.Weight.{measuring_from, measuring_parent}
-use Rattle.dc_bounds.specs.Measurable.{branches, leads_from, is_measurable, unmeasurable}
+use Rattle.dc_bounds.specs.Weight.{measuring_step, measuring_parent}
+use Rattle.dc_bounds.specs.Measurable.{branches, is_measured_step, is_measurable, unmeasurable}
 use Rattle.dc_delay.specs.LatchLaw.{AreMeasurable}
-use Rattle.dc_delay.proofs.Recursions.{climb_above, measuring_is, measured_is, parent_measures, parent_within}
+use Rattle.dc_bounds.proofs.Upwards.{parent_measures, parent_within}
+use Rattle.dc_delay.proofs.Recursions.{climb_above, measuring_is, measured_is}
 
 module _ (measures test : ℕ → Bool) where
   -- where no measuring one fails, each passes
@@ -54,14 +55,14 @@ module _ (rows : List Row) (tree : IsTree rows) (measures : ℕ → Bool) where
 
   parent_at : (r : ℕ) → r < length rows → (o : Option Above) → above rows r ≡ o → ((b : Above) → above rows r ≡ Some b → HasParent b.row) → HasParent r
   parent_at r within None up higher = λ measurable.
-      absurd (false≢true (sym (measured_is rows tree measures r within ∙ ap (leads_from measures (branches rows) (is_measurable rows measures)) up) ∙ measurable))
+      absurd (false≢true (sym (measured_is rows tree measures r within ∙ ap (is_measured_step measures (branches rows) (is_measurable rows measures)) up) ∙ measurable))
   parent_at r within (Some b) up higher = λ measurable. by (measures b.row) refl measurable
     where
       leads : is_measurable rows measures r ≡ (measures b.row || (not (branches rows b.row) && is_measurable rows measures b.row))
-      leads = measured_is rows tree measures r within ∙ ap (leads_from measures (branches rows) (is_measurable rows measures)) up
+      leads = measured_is rows tree measures r within ∙ ap (is_measured_step measures (branches rows) (is_measurable rows measures)) up
 
       parent : measuring_parent rows measures r ≡ (if measures b.row then Some b else measuring_parent rows measures b.row)
-      parent = measuring_is rows tree measures r within ∙ ap (measuring_from measures (measuring_parent rows measures)) up
+      parent = measuring_is rows tree measures r within ∙ ap (measuring_step measures (measuring_parent rows measures)) up
 
       second : (x y : Bool) → (x && y) ≡ true → y ≡ true
       second true y h = h
@@ -90,11 +91,11 @@ module _ (rows : List Row) (tree : IsTree rows) (measures : ℕ → Bool) where
     IsLater r = (a : Above) → measuring_parent rows measures r ≡ Some a → arrive rows a.row < arrive rows r
 
     later_at : (r : ℕ) → r < length rows → (o : Option Above) → above rows r ≡ o → ((b : Above) → above rows r ≡ Some b → IsLater b.row) → IsLater r
-    later_at r within None up higher = λ a found. absurd (let none = measuring_is rows tree measures r within ∙ ap (measuring_from measures (measuring_parent rows measures)) up in cc)
+    later_at r within None up higher = λ a found. absurd (let none = measuring_is rows tree measures r within ∙ ap (measuring_step measures (measuring_parent rows measures)) up in cc)
     later_at r within (Some b) up higher = by (measures b.row) refl
       where
         parent : measuring_parent rows measures r ≡ (if measures b.row then Some b else measuring_parent rows measures b.row)
-        parent = measuring_is rows tree measures r within ∙ ap (measuring_from measures (measuring_parent rows measures)) up
+        parent = measuring_is rows tree measures r within ∙ ap (measuring_step measures (measuring_parent rows measures)) up
 
         by : (m : Bool) → measures b.row ≡ m → IsLater r
         by true e = λ a found.

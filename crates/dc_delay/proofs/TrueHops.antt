@@ -13,11 +13,12 @@ use Rattle.cable_tree.specs.PathSums.{arrive, span}
 use Rattle.cable_tree.specs.Hops.{previous, lap, lap_before, forwarding}
 use Rattle.cable_tree.proofs.Children.{child_is}
 use Rattle.cable_tree.proofs.Laps.{hop_place, pass_step}
-use Rattle.dc_bounds.specs.Weight.{is_connected, measuring_from, measuring_parent}
-use Rattle.dc_bounds.specs.Measurable.{branches, leads_from, is_measurable}
+use Rattle.dc_bounds.specs.Weight.{is_connected, measuring_step, measuring_parent}
+use Rattle.dc_bounds.specs.Measurable.{branches, is_measured_step, is_measurable}
 use Rattle.dc_delay.specs.ShapeRows.{tp_ns, tf_ns}
-use Rattle.dc_delay.specs.MeasuredDelay.{passed_from, passed}
-use Rattle.dc_delay.proofs.Recursions.{some_same, climb_above, measuring_is, passed_is, measured_is}
+use Rattle.dc_delay.specs.MeasuredDelay.{passed_step, passed}
+use Rattle.dc_bounds.proofs.Upwards.{some_same}
+use Rattle.dc_delay.proofs.Recursions.{climb_above, measuring_is, passed_is, measured_is}
 
 -- at most one of three
 abbrev one_of : Bool → ℕ
@@ -67,16 +68,16 @@ module _ (rows : List Row) (tree : IsTree rows) (measures : ℕ → Bool) where
   IsUsed r = (a : Above) → measuring_parent rows measures r ≡ Some a → (k : ℕ) × (child rows a.row a.port ≡ Some k)
 
   used_at : (r : ℕ) → r < length rows → (o : Option Above) → above rows r ≡ o → ((b : Above) → above rows r ≡ Some b → IsUsed b.row) → IsUsed r
-  used_at r within None up higher = λ a found. absurd (let none = measuring_is rows tree measures r within ∙ ap (measuring_from measures (measuring_parent rows measures)) up in cc)
+  used_at r within None up higher = λ a found. absurd (let none = measuring_is rows tree measures r within ∙ ap (measuring_step measures (measuring_parent rows measures)) up in cc)
   used_at r within (Some b) up higher = by (measures b.row) refl
     where
       by : (m : Bool) → measures b.row ≡ m → IsUsed r
       by true e = λ a found.
-          let parent : measuring_parent rows measures r ≡ Some b = measuring_is rows tree measures r within ∙ ap (measuring_from measures (measuring_parent rows measures)) up ∙ rw e refl in
+          let parent : measuring_parent rows measures r ≡ Some b = measuring_is rows tree measures r within ∙ ap (measuring_step measures (measuring_parent rows measures)) up ∙ rw e refl in
           let same : b ≡ a = some_same (sym parent ∙ found) in
           subst (λ (x : Above). (k : ℕ) × (child rows x.row x.port ≡ Some k)) same (r, child_is rows tree b.row b.port r within up)
       by false e = λ a found.
-          let parent : measuring_parent rows measures r ≡ measuring_parent rows measures b.row = measuring_is rows tree measures r within ∙ ap (measuring_from measures (measuring_parent rows measures)) up ∙ rw e refl in
+          let parent : measuring_parent rows measures r ≡ measuring_parent rows measures b.row = measuring_is rows tree measures r within ∙ ap (measuring_step measures (measuring_parent rows measures)) up ∙ rw e refl in
           higher b up a (sym parent ∙ found)
 
   pub port_used : (r : ℕ) → r < length rows → IsUsed r
@@ -91,24 +92,24 @@ module _ (rows : List Row) (tree : IsTree rows) (measures : ℕ → Bool) where
   abbrev IsHopped : ℕ → Type 0
   IsHopped r = (a : Above) → measuring_parent rows measures r ≡ Some a → is_measurable rows measures r ≡ true → IsHop r a
 
-  passed_by : (number : ℕ → ℕ) (r : ℕ) (o : Option Above) → r < length rows → above rows r ≡ o → passed rows measures number r ≡ passed_from measures number (passed rows measures number) o
-  passed_by number r o within up = passed_is rows tree measures number r within ∙ ap (passed_from measures number (passed rows measures number)) up
+  passed_by : (number : ℕ → ℕ) (r : ℕ) (o : Option Above) → r < length rows → above rows r ≡ o → passed rows measures number r ≡ passed_step measures number (passed rows measures number) o
+  passed_by number r o within up = passed_is rows tree measures number r within ∙ ap (passed_step measures number (passed rows measures number)) up
 
   hopped_at : (r : ℕ) → r < length rows → (o : Option Above) → above rows r ≡ o → ((b : Above) → above rows r ≡ Some b → IsHopped b.row) → IsHopped r
-  hopped_at r within None up higher = λ a found. absurd (let none = measuring_is rows tree measures r within ∙ ap (measuring_from measures (measuring_parent rows measures)) up in cc)
+  hopped_at r within None up higher = λ a found. absurd (let none = measuring_is rows tree measures r within ∙ ap (measuring_step measures (measuring_parent rows measures)) up in cc)
   hopped_at r within (Some b) up higher = by (measures b.row) refl
     where
       by : (m : Bool) → measures b.row ≡ m → IsHopped r
       by true e = λ a found measurable.
-          let parent : measuring_parent rows measures r ≡ Some b = measuring_is rows tree measures r within ∙ ap (measuring_from measures (measuring_parent rows measures)) up ∙ rw e refl in
+          let parent : measuring_parent rows measures r ≡ Some b = measuring_is rows tree measures r within ∙ ap (measuring_step measures (measuring_parent rows measures)) up ∙ rw e refl in
           let same : b ≡ a = some_same (sym parent ∙ found) in
           let tfs : passed rows measures (tf_ns rows) r ≡ 0 = passed_by (tf_ns rows) r (Some b) within up ∙ rw e refl in
           let tps : passed rows measures (tp_ns rows) r ≡ 0 = passed_by (tp_ns rows) r (Some b) within up ∙ rw e refl in
           let place = hop_place rows b.row tree b.port r (child_is rows tree b.row b.port r within up) in
           subst (IsHop r) same (omega (arith, place, tfs, tps))
       by false e = λ a found measurable.
-          let parent : measuring_parent rows measures r ≡ measuring_parent rows measures b.row = measuring_is rows tree measures r within ∙ ap (measuring_from measures (measuring_parent rows measures)) up ∙ rw e refl in
-          let leads : (not (branches rows b.row) && is_measurable rows measures b.row) ≡ true = sym (measured_is rows tree measures r within ∙ ap (leads_from measures (branches rows) (is_measurable rows measures)) up ∙ rw e refl) ∙ measurable in
+          let parent : measuring_parent rows measures r ≡ measuring_parent rows measures b.row = measuring_is rows tree measures r within ∙ ap (measuring_step measures (measuring_parent rows measures)) up ∙ rw e refl in
+          let leads : (not (branches rows b.row) && is_measurable rows measures b.row) ≡ true = sym (measured_is rows tree measures r within ∙ ap (is_measured_step measures (branches rows) (is_measurable rows measures)) up ∙ rw e refl) ∙ measurable in
           let parts = both (branches rows b.row) (is_measurable rows measures b.row) leads in
           let tfs : passed rows measures (tf_ns rows) r ≡ tf_ns rows b.row + passed rows measures (tf_ns rows) b.row = passed_by (tf_ns rows) r (Some b) within up ∙ rw e refl in
           let tps : passed rows measures (tp_ns rows) r ≡ tp_ns rows b.row + passed rows measures (tp_ns rows) b.row = passed_by (tp_ns rows) r (Some b) within up ∙ rw e refl in

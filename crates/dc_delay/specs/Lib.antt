@@ -4,3 +4,4 @@ pub mod MeasuredDelay
 pub mod Refusals
 pub mod Table
 pub mod LatchLaw
+pub mod InsideTable

@@ -28,13 +28,13 @@ abbrev pub turn : List Row → (ℕ → Port → ℕ) → ℕ → ℕ
 turn rows laps r = turn_by rows laps r (last_port rows r)
 
 -- the sum of a number over the clockless slaves between a slave and its measuring parent, among so many above
-abbrev pub passed_from : (ℕ → Bool) → (ℕ → ℕ) → (ℕ → ℕ) → Option Above → ℕ
-passed_from measures number higher None = 0
-passed_from measures number higher (Some a) = if measures a.row then 0 else number a.row + higher a.row
+abbrev pub passed_step : (ℕ → Bool) → (ℕ → ℕ) → (ℕ → ℕ) → Option Above → ℕ
+passed_step measures number higher None = 0
+passed_step measures number higher (Some a) = if measures a.row then 0 else number a.row + higher a.row
 
 unfoldable pub passed_within : List Row → (ℕ → Bool) → (ℕ → ℕ) → ℕ → ℕ → ℕ
 passed_within rows measures number zero r = 0
-passed_within rows measures number (suc steps) r = passed_from measures number (passed_within rows measures number steps) (above rows r)
+passed_within rows measures number (suc steps) r = passed_step measures number (passed_within rows measures number steps) (above rows r)
 
 abbrev pub passed : List Row → (ℕ → Bool) → (ℕ → ℕ) → ℕ → ℕ
 passed rows measures number r = passed_within rows measures number (length rows) r
@@ -50,14 +50,14 @@ abbrev pub hop_back : List Row → (ℕ → Bool) → (ℕ → Port → ℕ) →
 hop_back rows measures laps a r = passed rows measures (tf_ns rows) r + turn rows laps r
 
 -- the sum of a number of each hop, from the first measuring slave down to a slave, over at most so many hops; 0 at the first one
-abbrev pub summed_from : (Above → ℕ → ℕ) → ℕ → (ℕ → ℕ) → Option Above → ℕ
-summed_from number r higher None = 0
-summed_from number r higher (Some a) = higher a.row + number a r
+abbrev pub summed_step : (Above → ℕ → ℕ) → ℕ → (ℕ → ℕ) → Option Above → ℕ
+summed_step number r higher None = 0
+summed_step number r higher (Some a) = higher a.row + number a r
 
 unfoldable pub summed_within : List Row → (ℕ → Bool) → (Above → ℕ → ℕ) → ℕ → ℕ → ℕ
 summed_within rows measures number zero r = 0
 summed_within rows measures number (suc hops) r =
-    summed_from number r (summed_within rows measures number hops) (measuring_parent rows measures r)
+    summed_step number r (summed_within rows measures number hops) (measuring_parent rows measures r)
 
 abbrev pub summed : List Row → (ℕ → Bool) → (Above → ℕ → ℕ) → ℕ → ℕ
 summed rows measures number r = summed_within rows measures number (length rows) r

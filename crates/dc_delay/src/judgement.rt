@@ -1,12 +1,13 @@
 ghost use Rattle.std.specs.Prelude.{◌≡◌, ◌<◌, ◌&&◌, not, length, Err, IfErr, IfOk, IfSome, Some};
-ghost use Rattle.dc_bounds.specs.Measurable.{branches, is_measurable};
-ghost use Rattle.dc_bounds.specs.Weight.{flag, is_connected};
+ghost use Rattle.dc_bounds.specs.Measurable.{is_measurable};
+ghost use Rattle.dc_bounds.specs.Weight.{flag};
 ghost use Rattle.dc_delay.specs.Refusals.{IsRefused, first_timed, first_unmeasurable};
 ghost use Rattle.dc_delay.specs.ShapeRows.{hanging};
 ghost use Rattle.dc_delay.specs.declared.error.DelayError.{DelayError as Error};
 
 use crate::error::DelayError;
-use cable_tree::Port;
+use crate::places::Places;
+use dc_bounds::is_measurable;
 use dc_topology::Shape;
 
 /// Whether there are delays of the clocks of a shape, which can be told before a slave has latched.
@@ -80,51 +81,5 @@ fn is_unmeasurable(shape: &Shape, measuring: &[bool], position: u16) -> bool
     requires within { position < length shape.now }
     ensures { result ≡ (flag measuring.now position && not (is_measurable (hanging shape.now) (flag measuring.now) position)) }
 {
-    measuring[usize::from(position)] && !is_measurable(shape, measuring, position)
-}
-
-// Whether a slave above measures, and none between has several behind it.
-fn is_measurable(shape: &Shape, measuring: &[bool], position: u16) -> bool
-    requires measuring { length measuring.now ≡ length shape.now }
-    requires within { position < length shape.now }
-    ensures { result ≡ is_measurable (hanging shape.now) (flag measuring.now) position }
-{
-    let mut here = position;
-    for _ in 0..shape.len() {
-        let Some(above) = shape.above(here) else {
-            return false;
-        };
-        // A place may name a slave that is not there. Nothing measures above it.
-        let higher = usize::from(above.row);
-        if higher >= measuring.len() {
-            return false;
-        }
-        if measuring[higher] {
-            return true;
-        }
-        if branches(shape, above.row) {
-            return false;
-        }
-        here = above.row;
-    }
-    false
-}
-
-// Whether several slaves hang at a slave.
-fn branches(shape: &Shape, position: u16) -> bool
-    requires { position < length shape.now }
-    ensures { result ≡ branches (hanging shape.now) position }
-{
-    let children = u8::from(is_connected(shape, position, Port::P3))
-        + u8::from(is_connected(shape, position, Port::P1))
-        + u8::from(is_connected(shape, position, Port::P2));
-    children >= 2
-}
-
-// Whether a slave hangs at this port.
-fn is_connected(shape: &Shape, position: u16, port: Port) -> bool
-    requires { position < length shape.now }
-    ensures { result ≡ is_connected (hanging shape.now) position port }
-{
-    shape.connected(position, port)
+    measuring[usize::from(position)] && !is_measurable(&Places { shape }, measuring, position)
 }

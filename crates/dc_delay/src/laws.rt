@@ -33,13 +33,13 @@ pub fn readings_are_latched()
 pub fn hops_add_up()
     ensures turned { (rows : List Row) → IsTree rows → (measures : ℕ → Bool) (laps : ℕ → Port → ℕ) (g : ℕ)
         → AreAllLatched rows measures g laps → AreMeasurable rows measures
-        → (c r : ℕ) → r < length rows → measures r ≡ true → is_over rows measures c (length rows) r ≡ true
+        → (c r : ℕ) → r < length rows → measures r ≡ true → is_over rows measures c r ≡ true
         → IsNear (1000000 * (ahead rows measures laps r + turn rows laps r + back rows measures laps c) + 2 * arrive rows c)
         (1000000 * (back rows measures laps r + ahead rows measures laps c) + 2 * arrive rows r + span rows r)
         ((1 + hops_within rows measures c (length rows) r) * g) }
     ensures weighed { (rows : List Row) → IsTree rows → (measures : ℕ → Bool) (laps : ℕ → Port → ℕ) (g : ℕ)
         → AreAllLatched rows measures g laps → AreMeasurable rows measures
-        → (c r : ℕ) → r < length rows → measures r ≡ true → is_over rows measures c (length rows) r ≡ true
+        → (c r : ℕ) → r < length rows → measures r ≡ true → is_over rows measures c r ≡ true
         → IsNear (1000000 * (ahead rows measures laps r + back rows measures laps c) + 2 * arrive rows c)
         (1000000 * (back rows measures laps r + ahead rows measures laps c) + 2 * arrive rows r)
         (weight_below rows measures c r * g) }

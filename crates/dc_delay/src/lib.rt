@@ -20,6 +20,7 @@ mod kind;
 mod latch;
 pub mod laws;
 mod measured;
+mod places;
 mod slave;
 mod table;
 mod ways;

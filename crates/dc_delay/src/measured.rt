@@ -4,15 +4,14 @@ ghost use Rattle.dc_delay.specs.Latched.{laps, measures};
 ghost use Rattle.dc_delay.specs.MeasuredDelay.{delay_list, delays_from};
 ghost use Rattle.dc_delay.specs.Refusals.{IsRefused};
 ghost use Rattle.dc_delay.specs.ShapeRows.{positions, rows_of};
-ghost use Rattle.dc_delay.specs.Table.{IsTable, table_laps, table_measures, table_rows};
+ghost use Rattle.dc_delay.specs.Table.{table_laps, table_measures, table_rows};
 ghost use Rattle.dc_delay.specs.declared.error.DelayError.{DelayError as Error};
 
 use crate::error::DelayError;
 use crate::judgement::reference;
 use crate::kind::Kind;
 use crate::latch::Latch;
-use crate::slave::Slave;
-use crate::table::table;
+use crate::table::Table;
 use crate::ways::{Sums, way};
 use arrayvec::ArrayVec;
 use dc_topology::Shape;
@@ -41,35 +40,15 @@ pub fn delays(
     ensures empty { OnErr result (out.new.items ≡ []) }
 {
     out.clear();
-    let slaves = table(shape, kinds, latches);
-    let reference = reference(shape, &measuring(latches), timed)?;
+    let slaves = Table::new(shape, kinds, latches);
+    let reference = reference(shape, slaves.measuring(), timed)?;
     put_delays(&slaves, timed, reference, out);
     Ok(())
 }
 
-// Which slaves measure: those with a latch.
-fn measuring(latches: &[Option<Latch>]) -> ArrayVec<bool, 256>
-    requires { length latches.now ≤ 256 }
-    ensures whole { length result.items ≡ length latches.now }
-    ensures is { flag result.items ≡ measures latches.now }
-{
-    let mut measuring = ArrayVec::new();
-    for position in 0..latches.len() {
-        measuring.push(measures(latches, position));
-    }
-    measuring
-}
-
-fn measures(latches: &[Option<Latch>], position: usize) -> bool
-    requires { position < length latches.now }
-    ensures { result ≡ measures latches.now position }
-{
-    latches[position].is_some()
-}
-
 // Puts the delays from a reference into an empty list.
-fn put_delays(slaves: &[Slave], timed: &[bool], reference: u16, out: &mut DelayList)
-    requires table { IsTable slaves.now }
+fn put_delays(slaves: &Table, timed: &[bool], reference: u16, out: &mut DelayList)
+    requires few { length timed.now ≤ 256 }
     requires timed { length timed.now ≡ length slaves.now }
     requires reference { reference < length slaves.now }
     requires empty { out.old.items ≡ [] }

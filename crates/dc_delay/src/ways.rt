@@ -1,13 +1,12 @@
 ghost use Rattle.std.specs.Prelude.{◌≡◌, ◌<◌, ◌≤◌, ◌+◌, ◌^◌, length, IfSome, Some};
 ghost use Rattle.cable_tree.specs.Hops.{last_port, previous};
-ghost use Rattle.dc_bounds.specs.Weight.{measuring_parent};
 ghost use Rattle.dc_delay.specs.MeasuredDelay.{ahead, back, forwarding_ns, hop_ahead, hop_back, latched_before, passed, turn};
 ghost use Rattle.dc_delay.specs.ShapeRows.{tf_ns, tp_ns};
-ghost use Rattle.dc_delay.specs.Table.{IsTable, table_laps, table_measures, table_rows};
+ghost use Rattle.dc_delay.specs.Table.{table_laps, table_measures, table_rows};
 
-use crate::slave::Slave;
-use crate::table::slave;
+use crate::table::Table;
 use cable_tree::{Above, Port};
+use dc_bounds::{Topology, measuring_parent};
 
 // Two sums in ns, the second of which is to be taken off the first. The difference may be negative.
 #[derive(Clone, Copy, Debug)]
@@ -17,9 +16,8 @@ pub(crate) struct Sums {
 }
 
 // The sum of the doubled hops from the first measuring slave down to this one.
-pub(crate) fn way(slaves: &[Slave], position: u16) -> Sums
-    requires table { IsTable slaves.now }
-    requires within { position < length slaves.now }
+pub(crate) fn way(slaves: &Table, position: u16) -> Sums
+    requires { position < length slaves.now }
     ensures ahead { result.ahead ≡ ahead (table_rows slaves.now) (table_measures slaves.now) (table_laps slaves.now) position }
     ensures back { result.back ≡ back (table_rows slaves.now) (table_measures slaves.now) (table_laps slaves.now) position }
     ensures few { (result.ahead ≤ 2 ^ 42) × (result.back ≤ 2 ^ 42) }
@@ -28,7 +26,7 @@ pub(crate) fn way(slaves: &[Slave], position: u16) -> Sums
     let mut back = 0;
     let mut here = position;
     for _ in 0..slaves.len() {
-        let Some(above) = measuring_parent(slaves, here) else {
+        let Some(above) = measuring_parent(slaves, slaves.measuring(), here) else {
             return Sums { ahead, back };
         };
         let hop = hop(slaves, above, here);
@@ -40,8 +38,7 @@ pub(crate) fn way(slaves: &[Slave], position: u16) -> Sums
 }
 
 // The doubled hop from a port of the measuring parent to the slave at `position`.
-fn hop(slaves: &[Slave], above: Above, position: u16) -> Sums
-    requires table { IsTable slaves.now }
+fn hop(slaves: &Table, above: Above, position: u16) -> Sums
     requires above { above.row < length slaves.now }
     requires within { position < length slaves.now }
     ensures ahead { result.ahead ≡ hop_ahead (table_rows slaves.now) (table_measures slaves.now) (table_laps slaves.now) above position }
@@ -59,8 +56,7 @@ fn hop(slaves: &[Slave], above: Above, position: u16) -> Sums
 
 // The sums of tP and of tF over the clockless slaves between the slave at `position` and its measuring
 // parent.
-fn passed(slaves: &[Slave], position: u16) -> Sums
-    requires { IsTable slaves.now }
+fn passed(slaves: &Table, position: u16) -> Sums
     ensures ahead { result.ahead ≡ passed (table_rows slaves.now) (table_measures slaves.now) (tp_ns (table_rows slaves.now)) position }
     ensures back { result.back ≡ passed (table_rows slaves.now) (table_measures slaves.now) (tf_ns (table_rows slaves.now)) position }
     ensures few { (result.ahead ≤ 2 ^ 24) × (result.back ≤ 2 ^ 24) }
@@ -69,10 +65,10 @@ fn passed(slaves: &[Slave], position: u16) -> Sums
     let mut back = 0;
     let mut here = position;
     for _ in 0..slaves.len() {
-        let Some(above) = slave(slaves, here).above else {
+        let Some(above) = slaves.slave(here).above else {
             return Sums { ahead, back };
         };
-        let between = slave(slaves, above.row);
+        let between = slaves.slave(above.row);
         if between.latch.is_some() {
             return Sums { ahead, back };
         }
@@ -83,30 +79,13 @@ fn passed(slaves: &[Slave], position: u16) -> Sums
     Sums { ahead, back }
 }
 
-// The nearest slave above that measures, and its port on the way.
-fn measuring_parent(slaves: &[Slave], position: u16) -> Option<Above>
-    ensures is { result ≡ measuring_parent (table_rows slaves.now) (table_measures slaves.now) position }
-    ensures within { IfSome result (λ a. a.row < length slaves.now) }
-{
-    let mut here = position;
-    for _ in 0..slaves.len() {
-        let above = slave(slaves, here).above?;
-        if slave(slaves, above.row).latch.is_some() {
-            return Some(above);
-        }
-        here = above.row;
-    }
-    None
-}
-
 // S: from the arrival at a slave until the frame leaves it by port 0, by its own latches.
-fn turn(slaves: &[Slave], position: u16) -> u64
-    requires table { IsTable slaves.now }
-    requires within { position < length slaves.now }
+fn turn(slaves: &Table, position: u16) -> u64
+    requires { position < length slaves.now }
     ensures is { result ≡ turn (table_rows slaves.now) (table_laps slaves.now) position }
     ensures few { result < 2 ^ 33 }
 {
-    let kind = slave(slaves, position).kind;
+    let kind = slaves.slave(position).kind;
     match last_port(slaves, position) {
         None => u64::from(kind.tp_ns),
         Some(last) => lap(slaves, position, last) + u64::from(kind.tf_ns),
@@ -114,18 +93,18 @@ fn turn(slaves: &[Slave], position: u16) -> u64
 }
 
 // L of a port.
-fn lap(slaves: &[Slave], position: u16, port: Port) -> u64
+fn lap(slaves: &Table, position: u16, port: Port) -> u64
     ensures is { result ≡ table_laps slaves.now position port }
     ensures few { result < 2 ^ 32 }
 {
-    match slave(slaves, position).latch {
+    match slaves.slave(position).latch {
         None => 0,
         Some(latch) => latch.lap(port),
     }
 }
 
 // L of the connected port before a port.
-fn lap_before(slaves: &[Slave], position: u16, before: Option<Port>) -> u64
+fn lap_before(slaves: &Table, position: u16, before: Option<Port>) -> u64
     ensures is { result ≡ latched_before (table_laps slaves.now) position before }
     ensures few { result < 2 ^ 32 }
 {
@@ -136,11 +115,11 @@ fn lap_before(slaves: &[Slave], position: u16, before: Option<Port>) -> u64
 }
 
 // The delay with which the frame leaves by the port that follows this one.
-fn forwarding(slaves: &[Slave], position: u16, before: Option<Port>) -> u64
+fn forwarding(slaves: &Table, position: u16, before: Option<Port>) -> u64
     ensures is { result ≡ forwarding_ns (table_rows slaves.now) position before }
     ensures few { result < 2 ^ 16 }
 {
-    let kind = slave(slaves, position).kind;
+    let kind = slaves.slave(position).kind;
     match before {
         None => u64::from(kind.tp_ns),
         Some(_) => u64::from(kind.tf_ns),
@@ -148,27 +127,24 @@ fn forwarding(slaves: &[Slave], position: u16, before: Option<Port>) -> u64
 }
 
 // The connected port before a port, in the order 3, 1, 2.
-fn previous(slaves: &[Slave], position: u16, port: Port) -> Option<Port>
-    requires table { IsTable slaves.now }
-    requires within { position < length slaves.now }
+fn previous(slaves: &Table, position: u16, port: Port) -> Option<Port>
+    requires { position < length slaves.now }
     ensures { result ≡ previous (table_rows slaves.now) position port }
 {
-    let connected = slave(slaves, position).connected;
     match port {
         Port::P3 => None,
-        Port::P1 => connected.p3.then_some(Port::P3),
-        Port::P2 if connected.p1 => Some(Port::P1),
-        Port::P2 => connected.p3.then_some(Port::P3),
+        Port::P1 => slaves.is_connected(position, Port::P3).then_some(Port::P3),
+        Port::P2 if slaves.is_connected(position, Port::P1) => Some(Port::P1),
+        Port::P2 => slaves.is_connected(position, Port::P3).then_some(Port::P3),
     }
 }
 
 // The last connected port.
-fn last_port(slaves: &[Slave], position: u16) -> Option<Port>
-    requires table { IsTable slaves.now }
-    requires within { position < length slaves.now }
+fn last_port(slaves: &Table, position: u16) -> Option<Port>
+    requires { position < length slaves.now }
     ensures { result ≡ last_port (table_rows slaves.now) position }
 {
-    if slave(slaves, position).connected.p2 {
+    if slaves.is_connected(position, Port::P2) {
         Some(Port::P2)
     } else {
         previous(slaves, position, Port::P2)

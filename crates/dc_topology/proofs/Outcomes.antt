@@ -1,14 +1,14 @@
 -- Statuses list at most one tree, or have one refusal.
-use Rattle.std.specs.Prelude.{◌≡◌, ℕ, suc, zero, ◌+◌, ◌-◌, ◌<◌, ◌≤◌, min, true, false, List, [], ◌∷◌, ◌++◌, length, take, drop, Option, Some, None, slice_index}
+use Rattle.std.specs.Prelude.{◌≡◌, ℕ, ◌<◌, ◌≤◌, true, false, List, [], ◌∷◌, ◌++◌, length, take, drop, None, slice_index}
 use Rattle.std.proofs.Common.{arith, refl, sym, ap, ◌∙◌, subst, inl, inr}
 use Rattle.std.proofs.lemmas.Bool.{cases_lt}
 use Rattle.std.proofs.lemmas.List.{append-nil, take_all, take-append-drop, take-take, length-take-le, length-drop, get_or-take}
 use Rattle.dc_topology.specs.DlStatus.{is_formed}
 use Rattle.dc_topology.specs.Listed.{Place, Lists}
-use Rattle.dc_topology.specs.Refusals.{ListsFront, ListsNoFront, AreFormed, IsRefused}
+use Rattle.dc_topology.specs.Refusals.{ListsFront, AreFormed, IsRefused}
 use Rattle.dc_topology.specs.declared.error.TopologyError.{TopologyError}
 use Rattle.dc_topology.specs.declared.error.TopologyError.TheVariants.{BadStatus, Surplus, Missing}
-use Rattle.dc_topology.proofs.Walking.{Walks, taken, walks_of, lists_of, same_walk, walk_formed}
+use Rattle.dc_topology.proofs.Walking.{Walks, taken, walks_of, same_walk, walk_formed}
 
 pub same_tree : (ss : List ℕ) (hs hs' : List Place) → Lists ss hs → Lists ss hs' → hs ≡ hs'
 same_tree ss hs hs' a b = (same_walk (None ∷ []) 0 ss hs (walks_of ss hs a) [] hs' (subst (λ x. Walks (None ∷ []) 0 x hs') (sym (append-nil ss)) (walks_of ss hs' b))).1

@@ -1,5 +1,5 @@
 -- What the pass keeps, from slave to slave.
-use Rattle.std.specs.Prelude.{◌≡◌, ℕ, suc, zero, ◌+◌, ◌*◌, ◌<◌, ◌≤◌, true, false, List, [], ◌∷◌, ◌++◌, length, take, reverse, Option, Some, None, slice_index, ◌==◌}
+use Rattle.std.specs.Prelude.{◌≡◌, ℕ, suc, zero, ◌<◌, ◌≤◌, true, false, List, [], ◌∷◌, ◌++◌, length, take, reverse, None, slice_index, ◌==◌}
 use Rattle.std.proofs.Common.{arith, rules, refl, sym, ap, ◌∙◌, subst, inl, inr}
 use Rattle.std.proofs.lemmas.Bool.{cases_lt}
 use Rattle.std.proofs.lemmas.Bool.Decides.{nat_tests}
@@ -9,7 +9,7 @@ use Rattle.dc_topology.specs.Refusals.{ListsNoFront}
 use Rattle.dc_topology.specs.DlStatus.{is_formed}
 use Rattle.dc_topology.specs.Listed.{Place, places, Lists}
 use Rattle.dc_topology.specs.Refusals.{ListsFront, AreFormed}
-use Rattle.dc_topology.proofs.Walking.{Walks, ends, takes, Taken, taken, stopped, walks_of, lists_of, same_walk, walk_formed}
+use Rattle.dc_topology.proofs.Walking.{Walks, ends, takes, taken, walks_of, lists_of}
 
 -- how a walk over the statuses goes on behind the first k of them
 pub record GoesOn (free : List Place) (k : ℕ) (rest : List ℕ) (hung : List Place) (hs : List Place) : Type 0 where

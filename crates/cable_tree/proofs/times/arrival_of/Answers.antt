@@ -1,5 +1,5 @@
 use Rattle.std.proofs.Common.{get_or, arith, ap, sym, ◌∙◌}
-use Rattle.cable_tree.specs.PathSums.{arrive, arrive_below}
+use Rattle.cable_tree.specs.PathSums.{arrive, arrive_step}
 use Rattle.cable_tree.proofs.Bounds.{inside_small}
 use Rattle.cable_tree.proofs.Children.{child_hangs}
 use Rattle.cable_tree.proofs.Levels.{arrive_is}
@@ -39,7 +39,7 @@ pub returns-in-None : goal.returns-in-None
 returns-in-None c =
     let rows = c.args.wiring.now in
     let is = arrive_is rows c.requires.segment.tree c.args.row c.requires.row in
-    let root = ap (arrive_below rows (arrive rows) c.args.row) (sym c.in-None.ensures) in
+    let root = ap (arrive_step rows (arrive rows) c.args.row) (sym c.in-None.ensures) in
     omega arith
 
 pub returns-in-Some : goal.returns-in-Some
@@ -47,6 +47,6 @@ returns-in-Some c =
     let rows = c.args.wiring.now in
     let a = c.in-Some.above in
     let is = arrive_is rows c.requires.segment.tree c.args.row c.requires.row in
-    let child = ap (arrive_below rows (arrive rows) c.args.row) (sym c.in-Some.ensures) in
+    let child = ap (arrive_step rows (arrive rows) c.args.row) (sym c.in-Some.ensures) in
     let known = ap (λ i. get_or c.args.arrivals.now i 0) c.from.ensures ∙ c.requires.parent a (sym c.in-Some.ensures) in
     omega arith

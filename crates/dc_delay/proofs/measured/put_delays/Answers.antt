@@ -12,7 +12,7 @@ push-requires c =
     let ss = c.args.slaves.now in
     let f = delay_if (table_rows ss) (table_measures ss) (flag c.args.timed.now) (table_laps ss) (Some c.args.reference) in
     let many = ap length c.loop-position.invariant ∙ length-map-range_with_len f 0 c.loop-position.position in
-    omega (arith, many, c.requires.table.few, c.requires.timed)
+    omega (arith, many, c.requires.few, c.requires.timed)
 
 pub loop-position-preserved : goal.loop-position-preserved
 loop-position-preserved c =

@@ -13,7 +13,7 @@ returns-in_default-clause-ahead c =
     let ss = c.args.slaves.now in
     let turn : c.loop.counter < length c.args.slaves.now = grind (arith, nat_tests) in
     let gone : c.slave.result.above ≡ None = search rules in
-    let root = above_is ss c.loop.here c.slave.result None c.slave.ensures gone in
+    let root = above_is ss c.loop.here c.slave.result None c.slave.ensures.is gone in
     let rest = passed_root (table_rows ss) (table_measures ss) (tp_ns (table_rows ss)) (length ss) c.loop.counter c.loop.here turn root in
     omega (arith, c.loop.invariant.ahead, rest)
 
@@ -22,7 +22,7 @@ returns-in_default-clause-back c =
     let ss = c.args.slaves.now in
     let turn : c.loop.counter < length c.args.slaves.now = grind (arith, nat_tests) in
     let gone : c.slave.result.above ≡ None = search rules in
-    let root = above_is ss c.loop.here c.slave.result None c.slave.ensures gone in
+    let root = above_is ss c.loop.here c.slave.result None c.slave.ensures.is gone in
     let rest = passed_root (table_rows ss) (table_measures ss) (tf_ns (table_rows ss)) (length ss) c.loop.counter c.loop.here turn root in
     omega (arith, c.loop.invariant.back, rest)
 
@@ -31,9 +31,9 @@ returns-then-is_some-clause-ahead c =
     let ss = c.args.slaves.now in
     let turn : c.loop.counter < length c.args.slaves.now = grind (arith, nat_tests) in
     let a = c.in-Some.above in
-    let up = above_is ss c.loop.here c.slave.result (Some a) c.slave.ensures c.in-Some.is in
+    let up = above_is ss c.loop.here c.slave.result (Some a) c.slave.ensures.is c.in-Some.is in
     let read : is_some c.slave-between.result.latch ≡ true = search rules in
-    let measured = measures_is ss a.row c.slave-between.result true c.slave-between.ensures read in
+    let measured = measures_is ss a.row c.slave-between.result true c.slave-between.ensures.is read in
     let rest = passed_here (table_rows ss) (table_measures ss) (tp_ns (table_rows ss)) (length ss) c.loop.counter c.loop.here a turn up measured in
     omega (arith, c.loop.invariant.ahead, rest)
 
@@ -42,9 +42,9 @@ returns-then-is_some-clause-back c =
     let ss = c.args.slaves.now in
     let turn : c.loop.counter < length c.args.slaves.now = grind (arith, nat_tests) in
     let a = c.in-Some.above in
-    let up = above_is ss c.loop.here c.slave.result (Some a) c.slave.ensures c.in-Some.is in
+    let up = above_is ss c.loop.here c.slave.result (Some a) c.slave.ensures.is c.in-Some.is in
     let read : is_some c.slave-between.result.latch ≡ true = search rules in
-    let measured = measures_is ss a.row c.slave-between.result true c.slave-between.ensures read in
+    let measured = measures_is ss a.row c.slave-between.result true c.slave-between.ensures.is read in
     let rest = passed_here (table_rows ss) (table_measures ss) (tf_ns (table_rows ss)) (length ss) c.loop.counter c.loop.here a turn up measured in
     omega (arith, c.loop.invariant.back, rest)
 
@@ -53,15 +53,14 @@ loop-preserved c =
     let ss = c.args.slaves.now in
     let turn : c.loop.counter < length c.args.slaves.now = grind (arith, nat_tests) in
     let a = c.in-Some.above in
-    let up = above_is ss c.loop.here c.slave.result (Some a) c.slave.ensures c.in-Some.is in
+    let up = above_is ss c.loop.here c.slave.result (Some a) c.slave.ensures.is c.in-Some.is in
     let read : is_some c.slave-between.result.latch ≡ false = search rules in
-    let not_measured = measures_is ss a.row c.slave-between.result false c.slave-between.ensures read in
-    let tp = tp_is ss a.row c.slave-between.result c.slave-between.ensures in
-    let tf = tf_is ss a.row c.slave-between.result c.slave-between.ensures in
+    let not_measured = measures_is ss a.row c.slave-between.result false c.slave-between.ensures.is read in
+    let tp = tp_is ss a.row c.slave-between.result c.slave-between.ensures.is in
+    let tf = tf_is ss a.row c.slave-between.result c.slave-between.ensures.is in
     let more_ahead = passed_higher (table_rows ss) (table_measures ss) (tp_ns (table_rows ss)) (length ss) c.loop.counter c.loop.here a turn up not_measured in
     let more_back = passed_higher (table_rows ss) (table_measures ss) (tf_ns (table_rows ss)) (length ss) c.loop.counter c.loop.here a turn up not_measured in
     record {
-      table = c.loop.invariant.table;
       ahead = omega (arith, c.loop.invariant.ahead, more_ahead, tp);
       back = omega (arith, c.loop.invariant.back, more_back, tf);
       few_ahead = search rules;

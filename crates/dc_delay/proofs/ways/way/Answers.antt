@@ -1,6 +1,7 @@
-use Rattle.std.proofs.Common.{rules, ◌≡◌, ◌<◌, ◌≤◌, length, arith, sym, ◌∙◌}
+use Rattle.std.proofs.Common.{rules, ◌≡◌, ◌<◌, ◌≤◌, length, arith, sym, ap, ◌∙◌}
 use Rattle.std.specs.Prelude.{None}
 use Rattle.std.proofs.lemmas.Bool.Decides.{nat_tests}
+use Rattle.dc_bounds.specs.Weight.{measuring_parent}
 use Rattle.dc_delay.specs.MeasuredDelay.{hop_ahead, hop_back}
 use Rattle.dc_delay.specs.Table.{table_laps, table_measures, table_rows}
 use Rattle.dc_delay.proofs.Climbing.{summed_top, summed_higher, summed_end}
@@ -11,7 +12,8 @@ returns-in_default-clause-ahead c =
     let ss = c.args.slaves.now in
     let turn : c.loop.counter < length c.args.slaves.now = grind (arith, nat_tests) in
     let gone : c.measuring_parent.result ≡ None = search rules in
-    let rest = summed_top (table_rows ss) (table_measures ss) (hop_ahead (table_rows ss) (table_measures ss) (table_laps ss)) (length ss) c.loop.counter c.loop.here turn (sym c.measuring_parent.ensures.is ∙ gone) in
+    let top = ap (λ m. measuring_parent (table_rows ss) m c.loop.here) (sym c.measuring.ensures.is) ∙ sym c.measuring_parent.ensures.is ∙ gone in
+    let rest = summed_top (table_rows ss) (table_measures ss) (hop_ahead (table_rows ss) (table_measures ss) (table_laps ss)) (length ss) c.loop.counter c.loop.here turn top in
     omega (arith, c.loop.invariant.ahead, rest)
 
 pub returns-in_default-clause-back : goal.returns-in_default-clause-back
@@ -19,7 +21,8 @@ returns-in_default-clause-back c =
     let ss = c.args.slaves.now in
     let turn : c.loop.counter < length c.args.slaves.now = grind (arith, nat_tests) in
     let gone : c.measuring_parent.result ≡ None = search rules in
-    let rest = summed_top (table_rows ss) (table_measures ss) (hop_back (table_rows ss) (table_measures ss) (table_laps ss)) (length ss) c.loop.counter c.loop.here turn (sym c.measuring_parent.ensures.is ∙ gone) in
+    let top = ap (λ m. measuring_parent (table_rows ss) m c.loop.here) (sym c.measuring.ensures.is) ∙ sym c.measuring_parent.ensures.is ∙ gone in
+    let rest = summed_top (table_rows ss) (table_measures ss) (hop_back (table_rows ss) (table_measures ss) (table_laps ss)) (length ss) c.loop.counter c.loop.here turn top in
     omega (arith, c.loop.invariant.back, rest)
 
 pub loop-preserved : goal.loop-preserved
@@ -27,11 +30,10 @@ loop-preserved c =
     let ss = c.args.slaves.now in
     let turn : c.loop.counter < length c.args.slaves.now = grind (arith, nat_tests) in
     let a = c.in-Some.above in
-    let up = sym c.measuring_parent.ensures.is ∙ c.in-Some.is in
+    let up = ap (λ m. measuring_parent (table_rows ss) m c.loop.here) (sym c.measuring.ensures.is) ∙ sym c.measuring_parent.ensures.is ∙ c.in-Some.is in
     let more_ahead = summed_higher (table_rows ss) (table_measures ss) (hop_ahead (table_rows ss) (table_measures ss) (table_laps ss)) (length ss) c.loop.counter c.loop.here a turn up in
     let more_back = summed_higher (table_rows ss) (table_measures ss) (hop_back (table_rows ss) (table_measures ss) (table_laps ss)) (length ss) c.loop.counter c.loop.here a turn up in
     record {
-      table = c.loop.invariant.table;
       here = search rules;
       ahead = omega (arith, c.loop.invariant.ahead, more_ahead, c.hop-hop.ensures.ahead);
       back = omega (arith, c.loop.invariant.back, more_back, c.hop-hop.ensures.back);

@@ -1,4 +1,4 @@
-use Rattle.std.proofs.Common.{◌≡◌, ap, refl}
+use Rattle.std.proofs.Common.{ap, refl}
 use Rattle.std.specs.Prelude.{Err}
 use Rattle.dc_topology.proofs.Outcomes.{same_tree, not_both, same_refusal}
 use Rattle.dc_topology.proofs.walk.topology.Goals as goal

@@ -1,6 +1,6 @@
-use Rattle.std.proofs.Common.{rules, ◌≡◌, ℕ, suc, ◌+◌, ◌*◌, ◌<◌, ◌≤◌, ◌++◌, [], ◌∷◌, length, arith, sym, ap, ◌∙◌, refl}
-use Rattle.std.specs.Prelude.{reverse, slice_index}
-use Rattle.dc_topology.proofs.Steps.{no_items, some_items, IsPass, surplus, bad_status, missing, one_more, all_listed, last_first, some_free, reversed_some, moved}
+use Rattle.std.proofs.Common.{rules, ◌≡◌, suc, ◌+◌, [], length, arith, sym, ap, ◌∙◌, refl}
+use Rattle.std.specs.Prelude.{reverse}
+use Rattle.dc_topology.proofs.Steps.{no_items, some_items, surplus, bad_status, missing, one_more, all_listed, last_first, some_free, reversed_some, moved}
 use Rattle.dc_topology.proofs.walk.walk.Goals as goal
 
 pub returns-in_default-clause-refused : goal.returns-in_default-clause-refused

@@ -1,4 +1,4 @@
-use Rattle.std.proofs.Common.{◌≡◌, ℕ, ◌+◌, ◌*◌, ◌≤◌, length}
+use Rattle.std.proofs.Common.{◌≡◌, ◌+◌, ◌*◌, ◌≤◌, length}
 use Rattle.std.specs.Prelude.{reverse}
 use Rattle.dc_topology.proofs.Steps.{IsPass}
 use Rattle.dc_topology.proofs.walk.walk.Given as goal

@@ -2,7 +2,7 @@ use Rattle.std.proofs.Common.{length, arith, sym, ap, ◌∙◌, ◌++◌, [], �
 use Rattle.std.proofs.lemmas.List.FromFn.{length-map-range_with_len, map-range_with_len_more}
 use Rattle.dc_delay.specs.Latched.{measures}
 use Rattle.dc_delay.proofs.Gathered.{flags_gathered, flags_whole}
-use Rattle.dc_delay.proofs.measured.measuring.Goals as goal
+use Rattle.dc_delay.proofs.table.measuring.Goals as goal
 
 pub push-requires : goal.push-requires
 push-requires c =

@@ -2,7 +2,7 @@ use Rattle.std.proofs.Common.{length, arith, sym, ap, ◌∙◌, ◌++◌, [], �
 use Rattle.std.proofs.lemmas.List.FromFn.{length-map-range_with_len, map-range_with_len_more}
 use Rattle.dc_delay.specs.Table.{told}
 use Rattle.dc_delay.proofs.Gathered.{gathered}
-use Rattle.dc_delay.proofs.table.table.Goals as goal
+use Rattle.dc_delay.proofs.table.slaves.Goals as goal
 
 pub push-requires : goal.push-requires
 push-requires c =

@@ -1,6 +1,0 @@
-use Rattle.std.proofs.Common.{◌∙◌}
-use Rattle.dc_delay.proofs.Hung.{hanging_port}
-use Rattle.dc_delay.proofs.judgement.is_connected.Goals as goal
-
-pub returns : goal.returns
-returns c = c.connected.ensures ∙ hanging_port c.args.shape.now c.args.position c.args.port
