@@ -13,7 +13,7 @@ use crate::live::Live;
 use crate::names::{Controller, Features, FilterDepth1, FilterDepth2, SpeedStart};
 use crate::reg_word::RegWord;
 use crate::register::Reg;
-use crate::rules::{self, SIZE};
+use crate::rules::{self, SIZE, START_TIME, SYSTEM_TIME};
 use std::marker::Model;
 
 /// The bytes 0x0000 to 0x0FFF of a slave's registers. Those that belong to no register are 0, the
@@ -38,6 +38,7 @@ impl Model for RegFile {
 }
 
 impl RegFile {
+    // All bytes 0.
     fn blank(kind: ClockKind) -> Self
         ensures kind { result.kind ≡ kind }
         ensures blank { (a : ℕ) → slice_index result.bytes a ≡ 0 }
@@ -105,8 +106,8 @@ impl RegFile {
             return Access::Refused;
         }
         let start = usize::from(addr);
-        show(self.kind, 0x0910, live.system_time, start, out);
-        show(self.kind, 0x0990, live.next_due, start, out);
+        show(self.kind, SYSTEM_TIME, live.system_time, start, out);
+        show(self.kind, START_TIME, live.next_due, start, out);
         Access::Done
     }
 
@@ -179,6 +180,7 @@ impl RegFile {
     }
 }
 
+/// The number that stands at `at`.
 fn word_at<W: RegWord>(bytes: &[u8], at: usize) -> W
     requires { at + W.BYTES ≤ length bytes.now }
     ensures is { W.number result ≡ number_at W.BYTES at bytes.now }
