@@ -85,7 +85,8 @@ impl RegFile {
     pub fn read(&self, addr: u16, out: &mut [u8]) -> Access
         ensures refused { result ≡ Access.Refused ↔ (is_refused self.now.kind addr (length out.old) ≡ true) }
         ensures bytes { result ≡ Access.Done → out.new ≡ slice_range self.now.bytes addr (addr + length out.old) }
-        ensures zeros { (k : ℕ) → result ≡ Access.Done → k < length out.old → is_defined self.now.kind (addr + k) ≡ false → slice_index out.new k ≡ 0 }
+        ensures zeros { (k : ℕ) → result ≡ Access.Done → k < length out.old → is_defined self.now.kind (addr + k) ≡ false
+            → slice_index out.new k ≡ 0 }
         ensures stays { result ≡ Access.Refused → out.new ≡ out.old }
     {
         let start = usize::from(addr);
@@ -194,7 +195,8 @@ fn word_at<W: RegWord>(bytes: &[u8], at: usize) -> W
 fn show(kind: ClockKind, at: usize, number: Option<u64>, start: usize, out: &mut [u8])
     requires place { at + 8 ≤ 4096 }
     requires room { start + length out.old ≤ 4096 }
-    ensures { (held : List ℕ) → length held ≡ 4096 → out.old ≡ slice_range held start (start + length out.old) → out.new ≡ slice_range (showing kind at number held) start (start + length out.old) }
+    ensures { (held : List ℕ) → length held ≡ 4096 → out.old ≡ slice_range held start (start + length out.old)
+        → out.new ≡ slice_range (showing kind at number held) start (start + length out.old) }
 {
     if let Some(number) = number {
         let bytes = number.to_le_bytes();

@@ -172,7 +172,8 @@ fn stores(writes: Writing, in_range: bool) -> bool
 pub(crate) fn overlay(under: &mut [u8], at: usize, over: &[u8], addr: usize)
     requires under { at + length under.old ≤ 4096 }
     requires over { addr + length over.now ≤ 4096 }
-    ensures { (k : ℕ) → k < length under.old → slice_index under.new k ≡ (if is_within (at + k) addr (length over.now) then slice_index over.now (at + k - addr) else slice_index under.old k) }
+    ensures { (k : ℕ) → k < length under.old
+        → slice_index under.new k ≡ (if is_within (at + k) addr (length over.now) then slice_index over.now (at + k - addr) else slice_index under.old k) }
 {
     let low = at.max(addr);
     let high = (at + under.len()).min(addr + over.len());
@@ -186,7 +187,8 @@ fn store_in(held: &mut [u8], at: usize, n: usize, addr: usize, bytes: &[u8])
     requires size { length held.old ≡ 4096 }
     requires place { at + n ≤ 4096 }
     requires bytes { addr + length bytes.now ≤ 4096 }
-    ensures { (a : ℕ) → slice_index held.new a ≡ (if is_within a addr (length bytes.now) && is_within a at n then slice_index bytes.now (a - addr) else slice_index held.old a) }
+    ensures { (a : ℕ) → slice_index held.new a
+        ≡ (if is_within a addr (length bytes.now) && is_within a at n then slice_index bytes.now (a - addr) else slice_index held.old a) }
 {
     overlay(&mut held[at..at + n], at, bytes, addr);
 }
