@@ -32,9 +32,12 @@ pub fn quiet_ticks()
 
 /// Ticks that a unit can spare leave it as it is, and raise nothing; behind them it can spare what is left of them.
 pub fn spare_ticks()
-    ensures unit { (w offset t : ℕ) (c : Clock) (unit : Option Armed) → ticks_to c t ≤ spare_of w (copy_of w c offset) unit → unit_at w c offset t unit ≡ unit }
-    ensures edges { (w offset t : ℕ) (c : Clock) (unit : Option Armed) → ticks_to c t ≤ spare_of w (copy_of w c offset) unit → edges_to w c offset t unit ≡ [] }
-    ensures left { (w offset t : ℕ) (c : Clock) (unit : Option Armed) → spare_of w (copy_of w c offset) unit ≤ ticks_to c t + spare_of w (copy_of w (advanced w t c) offset) unit }
+    ensures unit { (w offset t : ℕ) (c : Clock) (unit : Option Armed)
+        → ticks_to c t ≤ spare_of w (copy_of w c offset) unit → unit_at w c offset t unit ≡ unit }
+    ensures edges { (w offset t : ℕ) (c : Clock) (unit : Option Armed)
+        → ticks_to c t ≤ spare_of w (copy_of w c offset) unit → edges_to w c offset t unit ≡ [] }
+    ensures left { (w offset t : ℕ) (c : Clock) (unit : Option Armed)
+        → spare_of w (copy_of w c offset) unit ≤ ticks_to c t + spare_of w (copy_of w (advanced w t c) offset) unit }
 {}
 
 /// A unit that was armed raises, up to tick n, exactly the edges of the definition, each once and in
