@@ -26,34 +26,16 @@ pub struct LocalClock<W: ClockWord> {
 }
 
 impl<W: ClockWord> Model for LocalClock<W> {
-    ghost use Rattle.osc_clock.specs.Ticks.{IsRunning};
     ghost use Rattle.local_clock.specs.Reading.{Clock};
-    ghost use Rattle.local_clock.specs.AtOnce.{share_of};
+    ghost use Rattle.local_clock.specs.InsideClock.{value_of, inside_of, IsKept};
 
     ghost Value = { Clock };
 
-    ghost use Rattle.std.specs.Prelude.{◌≡◌, ◌<◌, ◌≤◌, ◌^◌, pos, unsigned_abs};
+    ghost view = { value_of W.number };
 
-    ghost view = { λ a. record {
-      osc = a.ticker.osc;
-      instant = a.ticker.instant;
-      reading = W.number a.reading;
-      left = a.left;
-      count = a.count;
-      g = a.g;
-    } };
+    ghost invariant = { IsKept W.number W.word };
 
-    ghost invariant = { λ a. (a.count < a.g) × (a.left ≡ pos 0 → a.count ≡ 0) × (unsigned_abs a.left ≤ 2 ^ 31)
-        × (W.word (W.number a.reading) ≡ a.reading) × (a.share ≡ share_of a.g) × IsRunning a.ticker.osc };
-
-    ghost inverse = { λ c. record {
-      ticker = record { osc = c.osc; instant = c.instant };
-      reading = W.word c.reading;
-      left = c.left;
-      count = c.count;
-      g = c.g;
-      share = share_of c.g;
-    } };
+    ghost inverse = { inside_of W.word };
 
     ghost use Rattle.std.proofs.Common.{ap₂, sym};
 
