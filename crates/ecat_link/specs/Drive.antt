@@ -25,7 +25,8 @@ drive step next (suc turns) before s = elim (next before) [
 
 -- A run that went on from these exchanges and this state: more exchanges by the step, each what the script wanted, up to
 -- its end.
-pub record IsDriven {S A : Type 0} (step : StepOf S) (next : List Exchange → Next A) (before : List Exchange) (s : S) (run : Ending S A) : Type 0 where
+pub record IsDriven {S A : Type 0} (step : StepOf S) (next : List Exchange → Next A) (before : List Exchange) (s : S)
+    (run : Ending S A) : Type 0 where
   pub more : List Exchange
   pub all : run.exchanges ≡ before ++ more
   pub runs : Runs step (Some s) more (Some run.state)

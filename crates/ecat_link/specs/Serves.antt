@@ -15,7 +15,8 @@ Sends next before (e ∷ es) = (next before ≡ Send e.wait_ns e.sent) × Sends 
 
 -- Over a link that went from state s to state t some exchanges were made. Whatever list of exchanges
 -- with P stood before them, they are the script's next ones, and the longer list has Q.
-pub record Serves {S A : Type 0} (step : StepOf S) (next : List Exchange → Next A) (P : List Exchange → Type 0) (s t : Option S) (Q : List Exchange → Type 0) : Type 0 where
+pub record Serves {S A : Type 0} (step : StepOf S) (next : List Exchange → Next A) (P : List Exchange → Type 0)
+    (s t : Option S) (Q : List Exchange → Type 0) : Type 0 where
   pub exchanges : List Exchange
   pub runs : Runs step s exchanges t
   pub script : (before : List Exchange) → P before → Sends next before exchanges

@@ -19,7 +19,8 @@ pub fn load_after_store()
 
 /// What is stored at one place changes no number that has no byte there.
 pub fn store_leaves_others()
-    ensures { (m at x : ℕ) (bytes : List ℕ) (b n : ℕ) → at + m ≤ length bytes → AreApart at m b n → number_at n b (with_number m at x bytes) ≡ number_at n b bytes }
+    ensures { (m at x : ℕ) (bytes : List ℕ) (b n : ℕ) → at + m ≤ length bytes → AreApart at m b n
+        → number_at n b (with_number m at x bytes) ≡ number_at n b bytes }
 {}
 
 /// What is stored leaves the number of bytes.
@@ -34,13 +35,15 @@ pub fn numbers_fit()
 
 /// A register of 8 bytes holds the number of its lower half, where the clock does not have 64 bits.
 pub fn narrow_numbers()
-    ensures { (r : Registers) (addr : ℕ) → IsWhole r → is_wide r.kind ≡ false → is_register addr 8 ≡ true → number_at 8 addr r.bytes ≡ number_at 4 addr r.bytes }
+    ensures { (r : Registers) (addr : ℕ) → IsWhole r → is_wide r.kind ≡ false → is_register addr 8 ≡ true
+        → number_at 8 addr r.bytes ≡ number_at 4 addr r.bytes }
 {}
 
 /// A write that is not refused stores each byte that is writable, and no other; so it leaves the
 /// number of bytes.
 pub fn write_stores()
-    ensures { (r : Registers) (addr : ℕ) (bytes : List ℕ) → length r.bytes ≡ 4096 → is_refused r.kind addr (length bytes) ≡ false → Stores r.kind (is_some (rate_by addr bytes)) addr bytes r.bytes (written r addr bytes).bytes }
+    ensures { (r : Registers) (addr : ℕ) (bytes : List ℕ) → length r.bytes ≡ 4096 → is_refused r.kind addr (length bytes) ≡ false
+        → Stores r.kind (is_some (rate_by addr bytes)) addr bytes r.bytes (written r addr bytes).bytes }
 {}
 
 /// A write leaves the kind.
@@ -51,13 +54,18 @@ pub fn write_leaves_kind()
 /// A write leaves each number that shares no byte with it, and each number none of whose bytes is
 /// writable.
 pub fn write_leaves_others()
-    ensures apart { (r : Registers) (addr : ℕ) (bytes : List ℕ) (at n : ℕ) → length r.bytes ≡ 4096 → AreApart addr (length bytes) at n → number_at n at (written r addr bytes).bytes ≡ number_at n at r.bytes }
-    ensures unwritable { (r : Registers) (addr : ℕ) (bytes : List ℕ) (at n : ℕ) → length r.bytes ≡ 4096 → ((k : ℕ) → k < n → is_writable r.kind (is_some (rate_by addr bytes)) (at + k) ≡ false) → number_at n at (written r addr bytes).bytes ≡ number_at n at r.bytes }
+    ensures apart { (r : Registers) (addr : ℕ) (bytes : List ℕ) (at n : ℕ) → length r.bytes ≡ 4096 → AreApart addr (length bytes) at n
+        → number_at n at (written r addr bytes).bytes ≡ number_at n at r.bytes }
+    ensures unwritable { (r : Registers) (addr : ℕ) (bytes : List ℕ) (at n : ℕ) → length r.bytes ≡ 4096
+        → ((k : ℕ) → k < n → is_writable r.kind (is_some (rate_by addr bytes)) (at + k) ≡ false)
+        → number_at n at (written r addr bytes).bytes ≡ number_at n at r.bytes }
 {}
 
 /// A write that has all bytes of a number, each of them writable, stores the number that it brings.
 pub fn write_stores_numbers()
-    ensures { (r : Registers) (addr : ℕ) (bytes : List ℕ) (at n : ℕ) → length r.bytes ≡ 4096 → is_refused r.kind addr (length bytes) ≡ false → addr ≤ at → at + n ≤ addr + length bytes → ((k : ℕ) → k < n → is_writable r.kind (is_some (rate_by addr bytes)) (at + k) ≡ true) → number_at n at (written r addr bytes).bytes ≡ number_at n (at - addr) bytes }
+    ensures { (r : Registers) (addr : ℕ) (bytes : List ℕ) (at n : ℕ) → length r.bytes ≡ 4096 → is_refused r.kind addr (length bytes) ≡ false
+        → addr ≤ at → at + n ≤ addr + length bytes → ((k : ℕ) → k < n → is_writable r.kind (is_some (rate_by addr bytes)) (at + k) ≡ true)
+        → number_at n at (written r addr bytes).bytes ≡ number_at n (at - addr) bytes }
 {}
 
 /// The registers before the first frame are whole, and each of the table has its number there.

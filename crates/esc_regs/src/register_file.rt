@@ -13,7 +13,7 @@ use crate::live::Live;
 use crate::names::{Controller, Features, FilterDepth1, FilterDepth2, SpeedStart};
 use crate::reg_word::RegWord;
 use crate::register::Reg;
-use crate::rules::{self, SIZE};
+use crate::rules::{self, SIZE, START_TIME, SYSTEM_TIME};
 use std::marker::Model;
 
 /// The bytes 0x0000 to 0x0FFF of a slave's registers. Those that belong to no register are 0, the
@@ -38,6 +38,7 @@ impl Model for RegFile {
 }
 
 impl RegFile {
+    // All bytes 0.
     fn blank(kind: ClockKind) -> Self
         ensures kind { result.kind ≡ kind }
         ensures blank { (a : ℕ) → slice_index result.bytes a ≡ 0 }
@@ -84,7 +85,8 @@ impl RegFile {
     pub fn read(&self, addr: u16, out: &mut [u8]) -> Access
         ensures refused { result ≡ Access.Refused ↔ (is_refused self.now.kind addr (length out.old) ≡ true) }
         ensures bytes { result ≡ Access.Done → out.new ≡ slice_range self.now.bytes addr (addr + length out.old) }
-        ensures zeros { (k : ℕ) → result ≡ Access.Done → k < length out.old → is_defined self.now.kind (addr + k) ≡ false → slice_index out.new k ≡ 0 }
+        ensures zeros { (k : ℕ) → result ≡ Access.Done → k < length out.old → is_defined self.now.kind (addr + k) ≡ false
+            → slice_index out.new k ≡ 0 }
         ensures stays { result ≡ Access.Refused → out.new ≡ out.old }
     {
         let start = usize::from(addr);
@@ -105,8 +107,8 @@ impl RegFile {
             return Access::Refused;
         }
         let start = usize::from(addr);
-        show(self.kind, 0x0910, live.system_time, start, out);
-        show(self.kind, 0x0990, live.next_due, start, out);
+        show(self.kind, SYSTEM_TIME, live.system_time, start, out);
+        show(self.kind, START_TIME, live.next_due, start, out);
         Access::Done
     }
 
@@ -179,6 +181,7 @@ impl RegFile {
     }
 }
 
+/// The number that stands at `at`.
 fn word_at<W: RegWord>(bytes: &[u8], at: usize) -> W
     requires { at + W.BYTES ≤ length bytes.now }
     ensures is { W.number result ≡ number_at W.BYTES at bytes.now }
@@ -192,7 +195,8 @@ fn word_at<W: RegWord>(bytes: &[u8], at: usize) -> W
 fn show(kind: ClockKind, at: usize, number: Option<u64>, start: usize, out: &mut [u8])
     requires place { at + 8 ≤ 4096 }
     requires room { start + length out.old ≤ 4096 }
-    ensures { (held : List ℕ) → length held ≡ 4096 → out.old ≡ slice_range held start (start + length out.old) → out.new ≡ slice_range (showing kind at number held) start (start + length out.old) }
+    ensures { (held : List ℕ) → length held ≡ 4096 → out.old ≡ slice_range held start (start + length out.old)
+        → out.new ≡ slice_range (showing kind at number held) start (start + length out.old) }
 {
     if let Some(number) = number {
         let bytes = number.to_le_bytes();

@@ -13,6 +13,33 @@ use wrap_time::{ClockWord, T32};
 /// The bytes of a register file.
 pub(crate) const SIZE: usize = 4096;
 
+// Addresses of the registers of distributed clocks (ESC data sheet, Section II).
+const RECEIVE_PORT0: usize = 0x0900;
+
+const RECEIVE_PORT1: usize = 0x0904;
+
+pub(crate) const SYSTEM_TIME: usize = 0x0910;
+
+const RECEIVE_UNIT: usize = 0x0918;
+
+const OFFSET: usize = 0x0920;
+
+const SPEED_START: usize = 0x0930;
+
+const ACTIVATION: usize = 0x0981;
+
+pub(crate) const START_TIME: usize = 0x0990;
+
+/// The first address behind the registers of distributed clocks.
+const CLOCKS_END: usize = 0x0A00;
+
+/// The least start of the speed counter.
+const LEAST_SPEED: u16 = 0x0080;
+
+/// The greatest start of the speed counter.
+const MOST_SPEED: u16 = 0x3FFF;
+
+/// Whether an access to `n` bytes from `addr` on has one of those from `low` on and below `high`.
 fn touches(low: usize, high: usize, addr: usize, n: usize) -> bool
     requires { addr + n ≤ 4096 }
     ensures { result ≡ touches low high addr n }
@@ -20,6 +47,7 @@ fn touches(low: usize, high: usize, addr: usize, n: usize) -> bool
     addr < high && low < addr + n
 }
 
+/// Whether such an access has all `m` bytes from `at` on.
 fn covers(at: usize, m: usize, addr: usize, n: usize) -> bool
     requires place { at + m ≤ 4096 }
     requires bytes { addr + n ≤ 4096 }
@@ -28,36 +56,42 @@ fn covers(at: usize, m: usize, addr: usize, n: usize) -> bool
     addr <= at && at + m <= addr + n
 }
 
+/// Whether an access touches registers that a slave of this kind does not have.
 fn lacks(kind: ClockKind, addr: usize, n: usize) -> bool
     requires { addr + n ≤ 4096 }
     ensures { result ≡ lacks kind addr n }
 {
     match kind {
-        ClockKind::None => touches(0x0900, 0x0A00, addr, n),
-        ClockKind::R32 => { touches(0x0910, 0x0918, addr, n) || touches(0x0920, 0x0A00, addr, n) }
+        ClockKind::None => touches(RECEIVE_PORT0, CLOCKS_END, addr, n),
+        ClockKind::R32 => {
+            touches(SYSTEM_TIME, RECEIVE_UNIT, addr, n) || touches(OFFSET, CLOCKS_END, addr, n)
+        }
         ClockKind::C32 | ClockKind::C64 => false,
     }
 }
 
+/// Whether an access is refused: it has no byte, goes past the registers, or touches some that the slave lacks.
 pub(crate) fn is_refused(kind: ClockKind, addr: usize, n: usize) -> bool
     ensures { result ≡ is_refused kind addr n }
 {
     n == 0 || n > SIZE || addr > SIZE - n || lacks(kind, addr, n)
 }
 
+/// Whether a write makes the ports latch their receive times: it has a byte of that of port 0.
 pub(crate) fn latches(addr: usize, bytes: &[u8]) -> bool
     requires { addr + length bytes.now ≤ 4096 }
     ensures { result ≡ latches addr bytes.now }
 {
-    touches(0x0900, 0x0904, addr, bytes.len())
+    touches(RECEIVE_PORT0, RECEIVE_PORT1, addr, bytes.len())
 }
 
+/// The system time that a write brings, in ns: the lower half of the register, where the write has all of it.
 pub(crate) fn received(addr: usize, bytes: &[u8]) -> Option<T32>
     requires { addr + length bytes.now ≤ 4096 }
     ensures { result ≡ received_by addr bytes.now }
 {
-    if covers(0x0910, 4, addr, bytes.len()) {
-        let time = u32::load(bytes, 0x0910 - addr);
+    if covers(SYSTEM_TIME, 4, addr, bytes.len()) {
+        let time = u32::load(bytes, SYSTEM_TIME - addr);
         Some(T32::cut(u64::from(time)))
     } else {
         None
@@ -70,30 +104,32 @@ pub(crate) fn is_own_time(addr: usize, n: usize) -> bool
     requires { addr + n ≤ 4096 }
     ensures { result ≡ (nat_le 0x0910 addr && nat_le (addr + n) 0x0920) }
 {
-    0x0910 <= addr && addr + n <= 0x0920
+    SYSTEM_TIME <= addr && addr + n <= OFFSET
 }
 
+/// How many ticks there are to a correction after a write of the start of the speed counter: a 64th of it.
 pub(crate) fn rate(addr: usize, bytes: &[u8]) -> Option<u8>
     requires { addr + length bytes.now ≤ 4096 }
     ensures { result ≡ rate_by addr bytes.now }
 {
-    if !covers(0x0930, 2, addr, bytes.len()) {
+    if !covers(SPEED_START, 2, addr, bytes.len()) {
         return None;
     }
-    let speed = u16::load(bytes, 0x0930 - addr);
-    if 0x0080 <= speed && speed <= 0x3FFF {
+    let speed = u16::load(bytes, SPEED_START - addr);
+    if LEAST_SPEED <= speed && speed <= MOST_SPEED {
         Some((speed / 64) as u8)
     } else {
         None
     }
 }
 
+/// The activation byte that a write brings.
 pub(crate) fn activation(addr: usize, bytes: &[u8]) -> Option<u8>
     requires { addr + length bytes.now ≤ 4096 }
     ensures { result ≡ activation_by addr bytes.now }
 {
-    if covers(0x0981, 1, addr, bytes.len()) {
-        Some(bytes[0x0981 - addr])
+    if covers(ACTIVATION, 1, addr, bytes.len()) {
+        Some(bytes[ACTIVATION - addr])
     } else {
         None
     }
@@ -121,6 +157,7 @@ pub(crate) fn held(kind: ClockKind, n: usize) -> usize
     }
 }
 
+/// Whether a write stores bytes of such a register, where a speed that it brings is in its range or not.
 fn stores(writes: Writing, in_range: bool) -> bool
     ensures { result ≡ stores in_range writes }
 {
@@ -135,7 +172,8 @@ fn stores(writes: Writing, in_range: bool) -> bool
 pub(crate) fn overlay(under: &mut [u8], at: usize, over: &[u8], addr: usize)
     requires under { at + length under.old ≤ 4096 }
     requires over { addr + length over.now ≤ 4096 }
-    ensures { (k : ℕ) → k < length under.old → slice_index under.new k ≡ (if is_within (at + k) addr (length over.now) then slice_index over.now (at + k - addr) else slice_index under.old k) }
+    ensures { (k : ℕ) → k < length under.old
+        → slice_index under.new k ≡ (if is_within (at + k) addr (length over.now) then slice_index over.now (at + k - addr) else slice_index under.old k) }
 {
     let low = at.max(addr);
     let high = (at + under.len()).min(addr + over.len());
@@ -149,7 +187,8 @@ fn store_in(held: &mut [u8], at: usize, n: usize, addr: usize, bytes: &[u8])
     requires size { length held.old ≡ 4096 }
     requires place { at + n ≤ 4096 }
     requires bytes { addr + length bytes.now ≤ 4096 }
-    ensures { (a : ℕ) → slice_index held.new a ≡ (if is_within a addr (length bytes.now) && is_within a at n then slice_index bytes.now (a - addr) else slice_index held.old a) }
+    ensures { (a : ℕ) → slice_index held.new a
+        ≡ (if is_within a addr (length bytes.now) && is_within a at n then slice_index bytes.now (a - addr) else slice_index held.old a) }
 {
     overlay(&mut held[at..at + n], at, bytes, addr);
 }

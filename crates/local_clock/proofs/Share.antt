@@ -1,7 +1,7 @@
 -- A division by g as a multiplication by its share of a power of two.
 use Rattle.std.proofs.Common.{◌≡◌, ℕ, ◌+◌, ◌-◌, ◌*◌, ◌/◌, ◌%◌, ◌^◌, ◌<◌, ◌≤◌, sym, ap, ◌∙◌, arith}
 use Rattle.std.proofs.lemmas.Nat.{div-add-mod', div-mul-add, le-div}
-use Rattle.std.proofs.Math.Nat.{mod-lt, mul-le-mul_left, mul-le-mul_right, div-mul-le_self, div-le_self}
+use Rattle.std.proofs.Math.Nat.{mod-lt, mul-le-mul_left, mul-le-mul_right, div-le_self}
 use Rattle.local_clock.specs.AtOnce.{share_of}
 
 -- with q rounds and r ticks more, where g has s in all, and e more than these s take

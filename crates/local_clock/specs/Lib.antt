@@ -4,3 +4,4 @@ pub mod LocalTime
 pub mod FirstReaching
 pub mod AtOnce
 pub mod WorkedOff
+pub mod InsideClock

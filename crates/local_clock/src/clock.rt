@@ -16,28 +16,26 @@ use wrap_time::ClockWord;
 pub struct LocalClock<W: ClockWord> {
     ticker: Ticker,
     reading: W,
+    // What is left of the received difference, in ns, and the ticks since the last correction.
     left: i64,
     count: u8,
+    // How many ticks there are to a correction.
     g: u8,
     // What ticks are multiplied by, so that corrections are counted with no division by g.
     share: u64,
 }
 
 impl<W: ClockWord> Model for LocalClock<W> {
-    ghost use Rattle.osc_clock.specs.Ticks.{IsRunning};
     ghost use Rattle.local_clock.specs.Reading.{Clock};
-    ghost use Rattle.local_clock.specs.AtOnce.{share_of};
+    ghost use Rattle.local_clock.specs.InsideClock.{value_of, inside_of, IsKept};
 
     ghost Value = { Clock };
 
-    ghost use Rattle.std.specs.Prelude.{◌≡◌, ◌<◌, ◌≤◌, ◌^◌, pos, unsigned_abs};
+    ghost view = { value_of W.number };
 
-    ghost view = { λ a. record { osc = a.ticker.osc; instant = a.ticker.instant; reading = W.number a.reading; left = a.left; count = a.count; g = a.g } };
+    ghost invariant = { IsKept W.number W.word };
 
-    ghost invariant = { λ a. (a.count < a.g) × (a.left ≡ pos 0 → a.count ≡ 0) × (unsigned_abs a.left ≤ 2 ^ 31)
-        × (W.word (W.number a.reading) ≡ a.reading) × (a.share ≡ share_of a.g) × IsRunning a.ticker.osc };
-
-    ghost inverse = { λ c. record { ticker = record { osc = c.osc; instant = c.instant }; reading = W.word c.reading; left = c.left; count = c.count; g = c.g; share = share_of c.g } };
+    ghost inverse = { inside_of W.word };
 
     ghost use Rattle.std.proofs.Common.{ap₂, sym};
 
@@ -55,7 +53,8 @@ impl<W: ClockWord> Clone for LocalClock<W> {
 }
 
 impl<W: ClockWord> LocalClock<W> {
-    /// A clock at true time 0 with nothing to correct. `g` is how many ticks there are to a correction.
+    /// A clock at true time 0 that shows `start`, in ns, and has nothing to correct. `g` is how many ticks there are
+    /// to a correction.
     pub fn new(osc: Osc, start: W, g: u8) -> Self
         requires { 1 ≤ g }
         ensures { result ≡ started osc (W.number start) g }
@@ -117,7 +116,7 @@ impl<W: ClockWord> LocalClock<W> {
         self.instant_after(1)
     }
 
-    /// How many ticks come after its instant and at or before `t`.
+    /// How many ticks come after its instant and at or before the true time `t`, in fs.
     pub fn ticks_to(&self, t: u64) -> u64
         requires { self.now.instant ≤ t }
         ensures number { result ≡ ticks_to self.now t }
@@ -126,7 +125,7 @@ impl<W: ClockWord> LocalClock<W> {
         self.ticker.ticks_to(t)
     }
 
-    /// Takes the ticks after its instant and at or before `t`, and stands at `t`.
+    /// Takes the ticks after its instant and at or before the true time `t`, in fs, and stands at `t`.
     pub fn advance(&mut self, t: u64)
         requires { self.old.instant ≤ t }
         ensures is { self.new ≡ advanced W.WIDTH t self.old }
@@ -184,7 +183,7 @@ impl<W: ClockWord> LocalClock<W> {
         self.instant_after(ticks_to_pass(self.left, self.count, self.g, self.share, gap))
     }
 
-    // When the k-th tick from now is.
+    // The true time of the k-th tick from now, in fs; `None` where that is above 2^64 - 1.
     fn instant_after(&self, k: u64) -> Option<u64>
         requires { 1 ≤ k }
         ensures at { result ≡ within_time (tick_after self.now k) }

@@ -1,13 +1,15 @@
 //! Laws over the definitions alone, for proofs of the layers above.
 
-ghost use Rattle.std.specs.Prelude.{◌≡◌, ℕ, suc, ◌+◌, ◌-◌, ◌*◌, ◌/◌, ◌%◌, ◌^◌, ◌<◌, ◌≤◌, ◌+ℤ◌, pos, ℤ, List, [], ◌∷◌, ◌++◌, min, nat_lt, unsigned_abs};
+ghost use Rattle.std.specs.Prelude.{◌≡◌, ℕ, suc, ◌+◌, ◌-◌, ◌*◌, ◌/◌, ◌%◌, ◌^◌, ◌<◌, ◌≤◌, ◌+ℤ◌, pos, ℤ};
+ghost use Rattle.std.specs.Prelude.{List, [], ◌∷◌, ◌++◌, min, nat_lt, unsigned_abs};
 ghost use Rattle.std.specs.List.{All};
 ghost use Rattle.wrap_time.specs.NearNumbers.{AreNear};
 ghost use Rattle.wrap_time.specs.WordLess.{word_less};
 ghost use Rattle.osc_clock.specs.Ticks.{Oscillator, IsRunning, ticks};
 ghost use Rattle.local_clock.specs.StepRule.{Steering, next, step, steered, elapsed};
 ghost use Rattle.local_clock.specs.WorkedOff.{IsSteady, IsTowardZero};
-ghost use Rattle.local_clock.specs.Reading.{Clock, Happening, IsPossible, started, steering_of, ticks_to, reading_after, advanced, after_event, clock_at, reading_at, AreUntil, AreInOrder};
+ghost use Rattle.local_clock.specs.Reading.{Clock, started, steering_of, ticks_to, reading_after, advanced};
+ghost use Rattle.local_clock.specs.Reading.{Happening, IsPossible, after_event, clock_at, reading_at, AreUntil, AreInOrder};
 ghost use Rattle.local_clock.specs.LocalTime.{whole_clock_at, local_time, cut_to};
 ghost use Rattle.local_clock.specs.FirstReaching.{is_behind, tick_after};
 
@@ -21,7 +23,8 @@ pub fn balance()
 /// Of a received d, `min(|d|, k / g)` ns are worked off in k ticks; what is left has the sign of d or
 /// is 0.
 pub fn correction()
-    ensures size { (d : ℤ) → (g k : ℕ) → 0 < g → unsigned_abs (steered g k (record { left = d; count = 0 })).left ≡ unsigned_abs d - min (unsigned_abs d) (k / g) }
+    ensures size { (d : ℤ) → (g k : ℕ) → 0 < g
+        → unsigned_abs (steered g k (record { left = d; count = 0 })).left ≡ unsigned_abs d - min (unsigned_abs d) (k / g) }
     ensures sign { (d : ℤ) → (g k : ℕ) → 0 < g → IsTowardZero d (steered g k (record { left = d; count = 0 })).left }
 {}
 
@@ -77,7 +80,8 @@ pub fn history()
         → clock_at w c (events ++ h ∷ []) h.instant ≡ after_event h.event (clock_at w c events h.instant) }
     ensures not_yet { (w t : ℕ) → (c : Clock) → (before later : List Happening) → AreInOrder (t + 1) later
         → clock_at w c (before ++ later) t ≡ clock_at w c before t }
-    ensures stands { (w t : ℕ) → (c : Clock) → (events : List Happening) → ((clock_at w c events t).instant ≡ t) × ((clock_at w c events t).osc ≡ c.osc) }
+    ensures stands { (w t : ℕ) → (c : Clock) → (events : List Happening)
+        → ((clock_at w c events t).instant ≡ t) × ((clock_at w c events t).osc ≡ c.osc) }
     ensures fits { (w t : ℕ) → (c : Clock) → (events : List Happening) → reading_at w c events t < 2 ^ w }
 {}
 

@@ -3,8 +3,8 @@
 //! that a reset drops what is left, are this project's own.
 //!
 //! A [`LocalClock`] stands at a true time, in fs, and shows a local time, in ns. [`LocalClock::advance`]
-//! takes all ticks of an interval at once, by a division, and [`LocalClock::first_reaching`] finds the
-//! tick at which the clock comes to a value by bisection; what they answer is said tick by tick, in
+//! takes all ticks of an interval at once, and [`LocalClock::first_reaching`] finds the tick at which the
+//! clock comes to a value by bisection: neither goes from tick to tick. What they answer is said tick by tick, in
 //! `specs/StepRule.antt`, `specs/Reading.antt` and `specs/FirstReaching.antt`. What follows from these
 //! for any number of ticks, and for a whole history of differences and resets, is in the [`laws`], that of
 //! the local time without wrap (`specs/LocalTime.antt`) among it.

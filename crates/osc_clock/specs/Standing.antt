@@ -2,6 +2,7 @@
 use Rattle.std.specs.Prelude.{ℕ, suc, zero, ◌-◌, ◌/◌, ◌^◌, List, [], ◌∷◌, nat_lt, if◌then◌else◌}
 use Rattle.osc_clock.specs.Ticks.{Rate, Oscillator, ticks}
 
+-- the oscillator, and the true time at which it stands, in fs
 pub record Standing : Type 0 where
   pub osc : Oscillator
   pub instant : ℕ
@@ -15,7 +16,7 @@ abbrev pub row_after : List Rate → ℕ → ℕ
 row_after [] k = 2 ^ 64 - 1
 row_after (rate ∷ rates) k = if nat_lt k rate.tick then rate.tick else row_after rates k
 
--- up to this tick the gaps stay as the one at tick k is: the phase is a gap by itself, a period lasts to the next row
+-- before this tick the gaps from tick k on are as the one at tick k: the phase is a gap by itself, and a period lasts to the next row
 abbrev pub steady_until : Oscillator → ℕ → ℕ
 steady_until o zero = 1
 steady_until o (suc k) = row_after o.rates (suc k)

@@ -5,7 +5,7 @@
 //! a [`RateRow`] gives another period.
 //! Ticks are numbered from 1. [`Osc::ticks_until`] says how many there are by a time, and
 //! [`Osc::instant_of`] when one comes. Both go over the rows and never over ticks. A [`Ticker`] is an
-//! oscillator that stands at a time, and counts its next ticks with neither rows nor a division.
+//! oscillator that stands at a time, and counts the ticks up to the next row with neither rows nor a division.
 //!
 //! Contracts see an oscillator as `specs/Ticks.antt` defines it, where ticks come one by one. What
 //! layers above need of every oscillator, such as how many ticks an interval can have

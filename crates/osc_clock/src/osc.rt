@@ -5,7 +5,7 @@ ghost use Rattle.osc_clock.specs.Standing.{steady_until};
 use crate::rate_row::{MAX_RATES, RateRow, are_rising, in_array};
 use std::marker::Model;
 
-/// An oscillator: its first tick, the time between ticks, and how that time changes.
+/// An oscillator: its first tick, the time between ticks, and how that time changes. Times are true times, in fs.
 // Behind its rows the array has zeros, so that equal oscillators are equal arrays.
 #[derive(Clone, Copy, Debug, PartialEq, Eq)]
 pub struct Osc {
@@ -107,7 +107,7 @@ impl Osc {
         after(at, tick - reached, period)
     }
 
-    /// When the first tick comes.
+    /// The true time of the first tick, in fs.
     pub(crate) fn phase(&self) -> u64
         ensures is { result ≡ self.now.phase }
         ensures running { IsRunning self.now }
@@ -115,7 +115,8 @@ impl Osc {
         self.phase
     }
 
-    /// The time from a tick to the next, and the tick up to which it stays so.
+    /// The time from a tick to the next, in fs, and the tick of the row that comes then: before it the times stay
+    /// so. Where no row comes, that is 2^64 - 1.
     pub(crate) fn steady_from(&self, tick: u64) -> (u64, u64)
         requires { 1 ≤ tick }
         ensures period { result.0 ≡ gap self.now tick }
@@ -132,7 +133,7 @@ impl Osc {
     }
 }
 
-/// The instant so many ticks after `at`, all a period apart.
+/// The instant so many ticks after `at`, all a period apart, in fs.
 fn after(at: u128, ticks: u64, period: u64) -> u128
     requires { at + ticks * period < 2 ^ 128 }
     ensures { result ≡ at + ticks * period }

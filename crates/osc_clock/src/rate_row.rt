@@ -12,12 +12,12 @@ pub(crate) const MAX_RATES: usize = 64;
 pub type RateList = ArrayVec<RateRow, MAX_RATES>;
 
 /// A change of an oscillator's period: each tick after number `tick` comes `period_fs` after the one
-/// before. Contracts see it as the `Rate` of `specs/Ticks.antt`.
+/// before, until the next row. Contracts see it as the `Rate` of `specs/Ticks.antt`.
 #[derive(Clone, Copy, Debug, Default, PartialEq, Eq)]
 pub struct RateRow {
-    /// From 1 on, and above that of the row before.
+    /// The number of the tick: from 1 on, and above that of the row before.
     pub tick: u64,
-    /// Not 0.
+    /// The period from there on, in fs; not 0.
     pub period_fs: u64,
 }
 

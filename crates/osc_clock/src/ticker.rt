@@ -10,11 +10,12 @@ use std::marker::Model;
 #[derive(Clone, Copy, Debug, PartialEq, Eq)]
 pub struct Ticker {
     osc: Osc,
+    // The true time at which it stands, in fs.
     instant: u64,
-    // The last tick until the instant, 0 where there is none, and the time since then.
+    // The number of the last tick until the instant, 0 where there is none, and the time since then, in fs.
     tick: u64,
     since: u64,
-    // The time from that tick to the next. So many ticks from it on have the same one after them.
+    // The time from that tick to the next, in fs. So many ticks from it on have the same one after them.
     period: u64,
     steady: u64,
     // What times are multiplied by in place of a division by the period.
@@ -54,7 +55,7 @@ impl Ticker {
         }
     }
 
-    /// The oscillator.
+    /// The oscillator that ticks.
     pub fn osc(&self) -> &Osc
         ensures { result.now ≡ self.now.osc }
     {
@@ -75,7 +76,7 @@ impl Ticker {
         self.tick
     }
 
-    /// How many ticks come after its instant and at or before `t`.
+    /// How many ticks come after its instant and at or before the true time `t`, in fs.
     pub fn ticks_to(&self, t: u64) -> u64
         requires { self.now.instant ≤ t }
         ensures number { result ≡ ticks_to self.now t }
@@ -99,7 +100,7 @@ impl Ticker {
         self.osc.ticks_until(t) - self.tick
     }
 
-    /// Stands at `t` from now on, where the number of the ticks until then is known.
+    /// Stands at the true time `t`, in fs, from now on, where the number of the ticks until then is known.
     pub fn pass(&mut self, ticks: u64, t: u64)
         requires later { self.old.instant ≤ t }
         requires number { ticks ≡ ticks_to self.old t }
@@ -134,7 +135,7 @@ impl Ticker {
     }
 }
 
-// The time from a tick to `t`.
+// The time from a tick to the true time `t`, in fs.
 fn since(osc: &Osc, tick: u64, t: u64) -> u64
     requires some { 1 ≤ tick }
     requires before { instant osc.now tick ≤ t }
@@ -143,7 +144,7 @@ fn since(osc: &Osc, tick: u64, t: u64) -> u64
     t - osc.instant_of(tick) as u64
 }
 
-// What times are multiplied by in place of a division by a period.
+// What times, in fs, are multiplied by in place of a division by a period.
 fn share(period: u64) -> u64
     requires { 1 ≤ period }
     ensures { result ≡ share_of period }

@@ -3,7 +3,6 @@ use Rattle.std.proofs.Common.{◌≡◌, ℕ, suc, zero, ◌+◌, ◌*◌, ◌%�
 use Rattle.std.specs.Prelude.{slice_get}
 use Rattle.std.specs.Option.{option_map, option_map_or}
 use Rattle.std.proofs.Math.Nat.{mod-add-mod, mod-eq_of_lt}
-use Rattle.std.proofs.lemmas.Nat.{pow_pos}
 use Rattle.std.proofs.lemmas.Bool.{cases_lt}
 use Rattle.std.proofs.lemmas.List.{append-nil, length_push}
 use Rattle.std.proofs.lemmas.List.Elements.{filter-append}
@@ -11,8 +10,8 @@ use Rattle.local_clock.specs.FirstReaching.{is_behind}
 use Rattle.sync_units.specs.declared.edge.Edge.{Edge}
 use Rattle.sync_units.specs.declared.edge.Signal.{Signal}
 use Rattle.sync_units.specs.declared.edge.Signal.TheVariants.{Sync0, Sync1}
-use Rattle.sync_units.specs.SyncRule.{Due, Armed, first_due, armed_by, moved_on, due_after_tick, raised, tick_edges, after_ticks, ticks_edges}
-use Rattle.sync_units.specs.Edges.{IsNextReached, EdgeAt, AreEdges, edge_of, is_same, edges_of}
+use Rattle.sync_units.specs.SyncRule.{Due, Armed, due_of, first_due, armed_by, moved_on, due_after_tick, raised, after_tick, tick_edges, raised_of, after_ticks, ticks_edges}
+use Rattle.sync_units.specs.Edges.{IsNextReached, EdgeAt, AreEdges, start_of, edge_of, is_same, edges_of}
 
 -- an edge is at one tick only
 next_unique : (w v m n n' : ℕ) (copy : ℕ → ℕ) → IsNextReached w copy v m n → IsNextReached w copy v m n' → n ≡ n'
@@ -227,79 +226,91 @@ cycle_stays : (w : ℕ) (copy : ℕ → ℕ) (k : ℕ) (a : Armed) → (after_ti
 cycle_stays w copy zero a = refl
 cycle_stays w copy (suc k) a = cycle_stays w copy k a
 
-due0 : (w : ℕ) (copy : ℕ → ℕ) (k : ℕ) (a : Armed) → (after_ticks w copy k a).sync0 ≡ signal_due w copy a.cycle k a.sync0
+due_moved : (w x : ℕ) (a : Armed) (s : Signal) → due_of s (after_tick w x a) ≡ option_map (due_after_tick w a.cycle x) (due_of s a)
+due_moved w x a Sync0 = refl
+due_moved w x a Sync1 = refl
+
+-- what is due of a signal does not depend on the other
+due_alone : (w : ℕ) (copy : ℕ → ℕ) (k : ℕ) (a : Armed) (s : Signal)
+    → due_of s (after_ticks w copy k a) ≡ option_map (signal_due w copy a.cycle k) (due_of s a)
 unfolding signal_due
-due0 w copy zero a = refl
-due0 w copy (suc k) a =
-    ap₂ (λ c d. due_after_tick w c (copy (suc k)) d) (cycle_stays w copy k a) (due0 w copy k a)
+due_alone w copy zero a s = at_zero (due_of s a)
+  where
+    at_zero : (o : Option Due) → o ≡ option_map (signal_due w copy a.cycle 0) o
+    at_zero None = refl
+    at_zero (Some d) = refl
+due_alone w copy (suc k) a s =
+    due_moved w (copy (suc k)) (after_ticks w copy k a) s
+    ∙ ap₂ (λ c o. option_map (due_after_tick w c (copy (suc k))) o) (cycle_stays w copy k a) (due_alone w copy k a s)
+    ∙ twice (due_of s a)
+  where
+    twice : (o : Option Due)
+        → option_map (due_after_tick w a.cycle (copy (suc k))) (option_map (signal_due w copy a.cycle k) o) ≡ option_map (signal_due w copy a.cycle (suc k)) o
+    twice None = refl
+    twice (Some d) = refl
 
-due1 : (w : ℕ) (copy : ℕ → ℕ) (k : ℕ) (a : Armed) (d : Due) → a.sync1 ≡ Some d
-    → (after_ticks w copy k a).sync1 ≡ Some (signal_due w copy a.cycle k d)
-unfolding signal_due
-due1 w copy zero a d is = is
-due1 w copy (suc k) a d is =
-    ap₂ (λ c o. option_map (due_after_tick w c (copy (suc k))) o) (cycle_stays w copy k a) (due1 w copy k a d is)
+no_others : (w x at : ℕ) (o : Option Due) → edges_of Sync0 (option_map_or (raised w Sync1 x at) o []) ≡ []
+no_others w x at None = refl
+no_others w x at (Some d) = other_raised w x at d Sync1 Sync0 refl
 
-no_due1 : (w : ℕ) (copy : ℕ → ℕ) (k : ℕ) (a : Armed) → a.sync1 ≡ None → (after_ticks w copy k a).sync1 ≡ None
-no_due1 w copy zero a is = is
-no_due1 w copy (suc k) a is =
-    ap (option_map (due_after_tick w (after_ticks w copy k a).cycle (copy (suc k)))) (no_due1 w copy k a is)
+all_same : (w x at : ℕ) (o : Option Due) → edges_of Sync1 (option_map_or (raised w Sync1 x at) o []) ≡ option_map_or (raised w Sync1 x at) o []
+all_same w x at None = refl
+all_same w x at (Some d) = same_raised w x at d Sync1 refl
 
-none0 : (w x at : ℕ) (o : Option Due) → edges_of Sync0 (option_map_or (raised w Sync1 x at) o []) ≡ []
-none0 w x at None = refl
-none0 w x at (Some d) = other_raised w x at d Sync1 Sync0 refl
+-- a tick raises of a signal what is due of it
+raised_alone : (w x at : ℕ) (a : Armed) (s : Signal) → edges_of s (tick_edges w x at a) ≡ raised_of w s x at a
+raised_alone w x at a Sync0 =
+    filter-append (λ e. is_same e.signal Sync0) (raised w Sync0 x at a.sync0) (option_map_or (raised w Sync1 x at) a.sync1 [])
+    ∙ ap₂ (λ (es fs : List Edge). es ++ fs) (same_raised w x at a.sync0 Sync0 refl) (no_others w x at a.sync1)
+    ∙ append-nil (raised w Sync0 x at a.sync0)
+raised_alone w x at a Sync1 =
+    filter-append (λ e. is_same e.signal Sync1) (raised w Sync0 x at a.sync0) (option_map_or (raised w Sync1 x at) a.sync1 [])
+    ∙ ap₂ (λ (es fs : List Edge). es ++ fs) (other_raised w x at a.sync0 Sync0 Sync1 refl) (all_same w x at a.sync1)
 
-edges0 : (w : ℕ) (copy time : ℕ → ℕ) (k : ℕ) (a : Armed)
-    → edges_of Sync0 (ticks_edges w copy time k a) ≡ signal_edges w copy time a.cycle Sync0 k a.sync0
-unfolding signal_edges
-edges0 w copy time zero a = refl
-edges0 w copy time (suc k) a =
+edges_alone : (w : ℕ) (copy time : ℕ → ℕ) (k : ℕ) (a : Armed) (s : Signal)
+    → edges_of s (ticks_edges w copy time k a) ≡ option_map_or (signal_edges w copy time a.cycle s k) (due_of s a) []
+unfolding signal_due signal_edges
+edges_alone w copy time zero a s = at_zero (due_of s a)
+  where
+    at_zero : (o : Option Due) → [] ≡ option_map_or (signal_edges w copy time a.cycle s 0) o []
+    at_zero None = refl
+    at_zero (Some d) = refl
+edges_alone w copy time (suc k) a s =
     let b = after_ticks w copy k a in
-    filter-append (λ e. is_same e.signal Sync0) (ticks_edges w copy time k a) (tick_edges w (copy (suc k)) (time (suc k)) b)
-    ∙ ap₂ (λ (es fs : List Edge). es ++ fs) (edges0 w copy time k a)
-    (filter-append (λ e. is_same e.signal Sync0) (raised w Sync0 (copy (suc k)) (time (suc k)) b.sync0) (option_map_or (raised w Sync1 (copy (suc k)) (time (suc k))) b.sync1 [])
-    ∙ ap₂ (λ (es fs : List Edge). es ++ fs) (same_raised w (copy (suc k)) (time (suc k)) b.sync0 Sync0 refl) (none0 w (copy (suc k)) (time (suc k)) b.sync1)
-    ∙ append-nil (raised w Sync0 (copy (suc k)) (time (suc k)) b.sync0)
-    ∙ ap (raised w Sync0 (copy (suc k)) (time (suc k))) (due0 w copy k a))
+    let tick = tick_edges w (copy (suc k)) (time (suc k)) b in
+    filter-append (λ e. is_same e.signal s) (ticks_edges w copy time k a) tick
+    ∙ ap₂ (λ (es fs : List Edge). es ++ fs) (edges_alone w copy time k a s)
+    (raised_alone w (copy (suc k)) (time (suc k)) b s
+    ∙ ap (λ o. option_map_or (raised w s (copy (suc k)) (time (suc k))) o []) (due_alone w copy k a s))
+    ∙ one_more (due_of s a)
+  where
+    one_more : (o : Option Due)
+        → option_map_or (signal_edges w copy time a.cycle s k) o []
+        ++ option_map_or (raised w s (copy (suc k)) (time (suc k))) (option_map (signal_due w copy a.cycle k) o) []
+        ≡ option_map_or (signal_edges w copy time a.cycle s (suc k)) o []
+    one_more None = refl
+    one_more (Some d) = refl
 
-edges1 : (w : ℕ) (copy time : ℕ → ℕ) (k : ℕ) (a : Armed) (d : Due) → a.sync1 ≡ Some d
-    → edges_of Sync1 (ticks_edges w copy time k a) ≡ signal_edges w copy time a.cycle Sync1 k d
-unfolding signal_edges
-edges1 w copy time zero a d is = refl
-edges1 w copy time (suc k) a d is =
-    let b = after_ticks w copy k a in
-    filter-append (λ e. is_same e.signal Sync1) (ticks_edges w copy time k a) (tick_edges w (copy (suc k)) (time (suc k)) b)
-    ∙ ap₂ (λ (es fs : List Edge). es ++ fs) (edges1 w copy time k a d is)
-    (filter-append (λ e. is_same e.signal Sync1) (raised w Sync0 (copy (suc k)) (time (suc k)) b.sync0) (option_map_or (raised w Sync1 (copy (suc k)) (time (suc k))) b.sync1 [])
-    ∙ ap₂ (λ (es fs : List Edge). es ++ fs) (other_raised w (copy (suc k)) (time (suc k)) b.sync0 Sync0 Sync1 refl)
-    (ap (λ o. edges_of Sync1 (option_map_or (raised w Sync1 (copy (suc k)) (time (suc k))) o [])) (due1 w copy k a d is)
-    ∙ same_raised w (copy (suc k)) (time (suc k)) (signal_due w copy a.cycle k d) Sync1 refl))
+armed_with : (w start cycle : ℕ) (sync1 : Option ℕ) (s : Signal) → due_of s (armed_by w start cycle sync1) ≡ option_map first_due (start_of w start sync1 s)
+armed_with w start cycle sync1 Sync0 = refl
+armed_with w start cycle None Sync1 = refl
+armed_with w start cycle (Some time) Sync1 = refl
 
-no_edges1 : (w : ℕ) (copy time : ℕ → ℕ) (k : ℕ) (a : Armed) → a.sync1 ≡ None → edges_of Sync1 (ticks_edges w copy time k a) ≡ []
-no_edges1 w copy time zero a is = refl
-no_edges1 w copy time (suc k) a is =
-    let b = after_ticks w copy k a in
-    filter-append (λ e. is_same e.signal Sync1) (ticks_edges w copy time k a) (tick_edges w (copy (suc k)) (time (suc k)) b)
-    ∙ ap₂ (λ (es fs : List Edge). es ++ fs) (no_edges1 w copy time k a is)
-    (filter-append (λ e. is_same e.signal Sync1) (raised w Sync0 (copy (suc k)) (time (suc k)) b.sync0) (option_map_or (raised w Sync1 (copy (suc k)) (time (suc k))) b.sync1 [])
-    ∙ ap₂ (λ (es fs : List Edge). es ++ fs) (other_raised w (copy (suc k)) (time (suc k)) b.sync0 Sync0 Sync1 refl)
-    (ap (λ o. edges_of Sync1 (option_map_or (raised w Sync1 (copy (suc k)) (time (suc k))) o [])) (no_due1 w copy k a is)))
+of_armed : (w : ℕ) (copy time : ℕ → ℕ) (n start cycle : ℕ) (sync1 : Option ℕ) (s : Signal)
+    → edges_of s (ticks_edges w copy time n (armed_by w start cycle sync1))
+    ≡ option_map_or (signal_edges w copy time cycle s n) (option_map first_due (start_of w start sync1 s)) []
+of_armed w copy time n start cycle sync1 s =
+    edges_alone w copy time n (armed_by w start cycle sync1) s
+    ∙ ap (λ o. option_map_or (signal_edges w copy time cycle s n) o []) (armed_with w start cycle sync1 s)
 
-pub exact0 : (w : ℕ) (copy time : ℕ → ℕ) (n v cycle : ℕ) (sync1 : Option ℕ) → v < 2 ^ w
-    → AreEdges w copy time cycle v Sync0 n (edges_of Sync0 (ticks_edges w copy time n (armed_by w v cycle sync1)))
-exact0 w copy time n v cycle sync1 word =
-    subst (AreEdges w copy time cycle v Sync0 n) (sym (edges0 w copy time n (armed_by w v cycle sync1)))
-    (signal_exact w copy time cycle v Sync0 n word)
+pub exact : (w : ℕ) (copy time : ℕ → ℕ) (n start cycle v : ℕ) (sync1 : Option ℕ) (s : Signal) → start_of w start sync1 s ≡ Some v → v < 2 ^ w
+    → AreEdges w copy time cycle v s n (edges_of s (ticks_edges w copy time n (armed_by w start cycle sync1)))
+exact w copy time n start cycle v sync1 s is word =
+    subst (AreEdges w copy time cycle v s n)
+    (sym (of_armed w copy time n start cycle sync1 s ∙ ap (λ o. option_map_or (signal_edges w copy time cycle s n) (option_map first_due o) []) is))
+    (signal_exact w copy time cycle v s n word)
 
-pub exact1 : (w : ℕ) (copy time : ℕ → ℕ) (n v cycle shift : ℕ)
-    → AreEdges w copy time cycle ((v + shift) % 2 ^ w) Sync1 n
-    (edges_of Sync1 (ticks_edges w copy time n (armed_by w v cycle (Some shift))))
-exact1 w copy time n v cycle shift =
-    let some : 0 < 2 ^ w = pow_pos w in
-    subst (AreEdges w copy time cycle ((v + shift) % 2 ^ w) Sync1 n)
-    (sym (edges1 w copy time n (armed_by w v cycle (Some shift)) (first_due ((v + shift) % 2 ^ w)) refl))
-    (signal_exact w copy time cycle ((v + shift) % 2 ^ w) Sync1 n (omega arith))
-
-pub exact_none : (w : ℕ) (copy time : ℕ → ℕ) (n v cycle : ℕ)
-    → edges_of Sync1 (ticks_edges w copy time n (armed_by w v cycle None)) ≡ []
-exact_none w copy time n v cycle = no_edges1 w copy time n (armed_by w v cycle None) refl
+pub exact_none : (w : ℕ) (copy time : ℕ → ℕ) (n start cycle : ℕ) (sync1 : Option ℕ) (s : Signal) → start_of w start sync1 s ≡ None
+    → edges_of s (ticks_edges w copy time n (armed_by w start cycle sync1)) ≡ []
+exact_none w copy time n start cycle sync1 s none =
+    of_armed w copy time n start cycle sync1 s ∙ ap (λ o. option_map_or (signal_edges w copy time cycle s n) (option_map first_due o) []) none

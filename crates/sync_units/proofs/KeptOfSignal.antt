@@ -1,5 +1,5 @@
 -- The edges of one signal that a list keeps are the first of those that were raised.
-use Rattle.std.proofs.Common.{◌≡◌, ℕ, suc, zero, ◌+◌, ◌-◌, ◌%◌, ◌^◌, ◌<◌, ◌≤◌, min, Bool, true, false, List, [], ◌∷◌, take, Option, Some, None, arith, refl, sym, ap, ◌∙◌, inl, inr}
+use Rattle.std.proofs.Common.{◌≡◌, ℕ, suc, zero, ◌+◌, ◌-◌, ◌%◌, ◌^◌, ◌<◌, ◌≤◌, min, Bool, true, false, List, [], ◌∷◌, take, Option, Some, None, arith, refl, sym, ap, ◌∙◌, subst, inl, inr}
 use Rattle.std.specs.Prelude.{nat_lt, slice_get}
 use Rattle.std.specs.List.{filter}
 use Rattle.std.proofs.lemmas.Bool.{cases_lt}
@@ -10,8 +10,8 @@ use Rattle.sync_units.specs.declared.edge.Signal.{Signal}
 use Rattle.sync_units.specs.declared.edge.Signal.TheVariants.{Sync0, Sync1}
 use Rattle.sync_units.specs.SyncRule.{armed_by, ticks_edges}
 use Rattle.sync_units.specs.KeptEdges.{empty_list, put_all}
-use Rattle.sync_units.specs.Edges.{AreEdges, edge_of, is_same, edges_of, first_edges}
-use Rattle.sync_units.proofs.Exact.{exact0, exact1, exact_none}
+use Rattle.sync_units.specs.Edges.{AreEdges, start_of, edge_of, is_same, edges_of, first_edges}
+use Rattle.sync_units.proofs.Exact.{exact, exact_none}
 use Rattle.sync_units.proofs.Kept.{kept}
 
 none_taken : (n : ℕ) → [] ≡ take {A = Edge} n []
@@ -65,20 +65,22 @@ taken keep w copy time cycle v s n es few h =
     let e : keep - 0 ≡ keep = omega arith in
     first_are_taken keep 0 es few (indices w copy time cycle v s n es h) ∙ ap (λ m. take m es) e
 
-pub kept_of_signal : (w : ℕ) (copy time : ℕ → ℕ) (n v cycle : ℕ) (sync1 : Option ℕ) (keep : ℕ) (s : Signal) → v < 2 ^ w → keep ≤ 2 ^ 32
-    → edges_of s (put_all (ticks_edges w copy time n (armed_by w v cycle sync1)) (empty_list keep)).edges
-    ≡ take keep (edges_of s (ticks_edges w copy time n (armed_by w v cycle sync1)))
-kept_of_signal w copy time n v cycle sync1 keep s word few =
-    let es = ticks_edges w copy time n (armed_by w v cycle sync1) in
-    ap (edges_of s) (kept w copy time n v cycle sync1 keep few)
+start_word : (w start v : ℕ) (sync1 : Option ℕ) (s : Signal) → start < 2 ^ w → start_of w start sync1 s ≡ Some v → v < 2 ^ w
+start_word w start v sync1 Sync0 word is = subst (λ u. u < 2 ^ w) (same_Some start v is) word
+start_word w start v None Sync1 word is = absurd (cc is)
+start_word w start v (Some time) Sync1 word is = subst (λ u. u < 2 ^ w) (same_Some ((start + time) % 2 ^ w) v is) (omega arith)
+
+pub kept_of_signal : (w : ℕ) (copy time : ℕ → ℕ) (n start cycle : ℕ) (sync1 : Option ℕ) (keep : ℕ) (s : Signal) → start < 2 ^ w → keep ≤ 2 ^ 32
+    → edges_of s (put_all (ticks_edges w copy time n (armed_by w start cycle sync1)) (empty_list keep)).edges
+    ≡ take keep (edges_of s (ticks_edges w copy time n (armed_by w start cycle sync1)))
+kept_of_signal w copy time n start cycle sync1 keep s word few =
+    let es = ticks_edges w copy time n (armed_by w start cycle sync1) in
+    ap (edges_of s) (kept w copy time n start cycle sync1 keep few)
     ∙ filters_swap (λ e. is_same e.signal s) (λ e. nat_lt e.index keep) es
-    ∙ of_signal s sync1
+    ∙ by (start_of w start sync1 s) refl
   where
-    of_signal : (s : Signal) (sync1 : Option ℕ)
-        → first_edges keep (edges_of s (ticks_edges w copy time n (armed_by w v cycle sync1)))
-        ≡ take keep (edges_of s (ticks_edges w copy time n (armed_by w v cycle sync1)))
-    of_signal Sync0 sync1 = taken keep w copy time cycle v Sync0 n _ few (exact0 w copy time n v cycle sync1 word)
-    of_signal Sync1 (Some shift) = taken keep w copy time cycle ((v + shift) % 2 ^ w) Sync1 n _ few (exact1 w copy time n v cycle shift)
-    of_signal Sync1 None =
-        let none = exact_none w copy time n v cycle in
-        rw none (none_taken keep)
+    by : (o : Option ℕ) → start_of w start sync1 s ≡ o
+        → first_edges keep (edges_of s (ticks_edges w copy time n (armed_by w start cycle sync1)))
+        ≡ take keep (edges_of s (ticks_edges w copy time n (armed_by w start cycle sync1)))
+    by (Some v) some = taken keep w copy time cycle v s n _ few (exact w copy time n start cycle v sync1 s some (start_word w start v sync1 s word some))
+    by None none = let empty = exact_none w copy time n start cycle sync1 s none in rw empty (none_taken keep)

@@ -1,5 +1,5 @@
 -- The loop from edge to edge: what one turn does, and what is left of the ticks after it.
-use Rattle.std.proofs.Common.{◌≡◌, ℕ, ◌+◌, ◌-◌, ◌<◌, ◌≤◌, ◌^◌, ◌%◌, Bool, true, false, ◌++◌, Option, Some, None, arith, rules, sym, ap, ap₂, ◌∙◌, subst, inl, inr}
+use Rattle.std.proofs.Common.{◌≡◌, ℕ, ◌+◌, ◌-◌, ◌<◌, ◌≤◌, ◌^◌, ◌%◌, min, Bool, true, false, ◌++◌, Option, Some, None, arith, rules, sym, ap, ap₂, ◌∙◌, subst, inl, inr}
 use Rattle.std.specs.Prelude.{nat_lt, if◌then◌else◌}
 use Rattle.std.proofs.Math.Path.{fun_ext}
 use Rattle.std.proofs.lemmas.Bool.{cases_lt}
@@ -10,10 +10,13 @@ use Rattle.local_clock.specs.Reading.{Clock, ticks_to, advanced}
 use Rattle.local_clock.specs.FirstReaching.{is_behind, tick_after, within_time}
 use Rattle.local_clock.proofs.ManyTicks.{ticks_to_tick, ticks_on, advanced_reading, advanced_tick}
 use Rattle.sync_units.specs.ClockCopy.{copy_after}
+use Rattle.sync_units.specs.declared.armed_unit.NextEdges.{NextEdges}
+use Rattle.sync_units.specs.declared.edge.Signal.{Signal}
+use Rattle.sync_units.specs.declared.edge.Signal.TheVariants.{Sync0, Sync1}
 use Rattle.sync_units.specs.KeptEdges.{Kept, put_all}
-use Rattle.sync_units.specs.SyncRule.{Due, Armed, after_tick, tick_edges, after_ticks, ticks_edges}
+use Rattle.sync_units.specs.SyncRule.{Due, Armed, due_of, after_tick, tick_edges, after_ticks, ticks_edges}
 use Rattle.sync_units.specs.Quiet.{AreQuiet}
-use Rattle.sync_units.specs.NextEdge.{IsNextEdge, IsNextEdge1, IsNextUnlessNow, IsNextUnlessNow1, IsFrom, IsFirst}
+use Rattle.sync_units.specs.NextEdge.{next_of, IsNextEdge, IsNextUnlessNow, AreNextEdges, IsFrom, AreFrom, IsFirst}
 use Rattle.sync_units.proofs.Kept.{put_all-append}
 use Rattle.sync_units.proofs.Ticks.{quiet_after, quiet_none, first_after, first_edges}
 
@@ -32,6 +35,34 @@ within_from x n few from = elim (cases_lt x (2 ^ 64)) [
   | inr over ↦ omega arith
 ]
 
+-- an instant of one signal that is from the other's on is the first
+is_first : (t n : ℕ) (next : NextEdges) (s : Signal) → n ≤ t → next_of s next ≡ Some n → AreFrom n next → IsFirst t n next
+is_first t n next s le is from = record { within = le; from = from; signal = s; one = is }
+
+pub first_of_two : (t n a b : ℕ) (next : NextEdges) → next.sync0 ≡ Some a → next.sync1 ≡ Some b → n ≡ min a b → n ≤ t → IsFirst t n next
+first_of_two t n a b next is0 is1 least le = elim (cases_lt a b) [
+  | inl lt ↦ is_first t n next Sync0 le (is0 ∙ ap Some (omega (arith, least))) from
+  | inr ge ↦ is_first t n next Sync1 le (is1 ∙ ap Some (omega (arith, least))) from
+]
+  where
+    from : AreFrom n next
+    from Sync0 = rw is0 (omega (arith, least))
+    from Sync1 = rw is1 (omega (arith, least))
+
+pub first_of_sync0 : (t n a : ℕ) (next : NextEdges) → next.sync0 ≡ Some a → next.sync1 ≡ None → n ≡ a → n ≤ t → IsFirst t n next
+first_of_sync0 t n a next is0 is1 same le = is_first t n next Sync0 le (is0 ∙ ap Some (sym same)) from
+  where
+    from : AreFrom n next
+    from Sync0 = rw is0 (omega (arith, same))
+    from Sync1 = rw is1 _
+
+pub first_of_sync1 : (t n b : ℕ) (next : NextEdges) → next.sync0 ≡ None → next.sync1 ≡ Some b → n ≡ b → n ≤ t → IsFirst t n next
+first_of_sync1 t n b next is0 is1 same le = is_first t n next Sync1 le (is1 ∙ ap Some (sym same)) from
+  where
+    from : AreFrom n next
+    from Sync0 = rw is0 _
+    from Sync1 = rw is1 (omega (arith, same))
+
 ticks_apart : (c : Clock) (j k : ℕ) → IsRunning c.osc → j ≤ k → tick_after c j ≤ tick_after c k
 ticks_apart c j k run le = elim (cases_lt j k) [
   | inl lt ↦ let rise = instants_rise c.osc (ticks c.osc c.instant + j) (ticks c.osc c.instant + k) run (omega arith) in omega (arith, rise)
@@ -39,9 +70,9 @@ ticks_apart c j k run le = elim (cases_lt j k) [
 ]
 
 -- before the instant of its next edge a signal is not reached
-pub quiet_until : (w n offset v : ℕ) (c : Clock) (at : Option ℕ) → IsRunning c.osc → IsNextEdge w c offset v at
-    → IsFrom n at → n ≤ 2 ^ 64 → (i : ℕ) → 0 < i → tick_after c i < n → is_behind w (copy_after w c offset i) v ≡ true
-quiet_until w n offset v c at run (k, next, is) from few i some early = elim (cases_lt i k) [
+quiet_until : (w n offset : ℕ) (c : Clock) (d : Due) (at : Option ℕ) → IsRunning c.osc → IsNextEdge w c offset (Some d) at
+    → IsFrom n at → n ≤ 2 ^ 64 → (i : ℕ) → 0 < i → tick_after c i < n → is_behind w (copy_after w c offset i) d.value ≡ true
+quiet_until w n offset c d at run (k, next, is) from few i some early = elim (cases_lt i k) [
   | inl lt ↦ next.before i some lt
   | inr ge ↦
       let late = within_from (tick_after c k) n few (subst (IsFrom n) is from) in
@@ -49,21 +80,17 @@ quiet_until w n offset v c at run (k, next, is) from few i some early = elim (ca
       absurd (omega (arith, late, rise))
 ]
 
-pub all_quiet : (w n offset j : ℕ) (c : Clock) (a : Armed) (at0 at1 : Option ℕ) → IsRunning c.osc
-    → IsNextEdge w c offset a.sync0.value at0 → IsNextEdge1 w c offset a.sync1 at1 → IsFrom n at0 → IsFrom n at1 → n ≤ 2 ^ 64
+all_quiet : (w n offset j : ℕ) (c : Clock) (a : Armed) (next : NextEdges) → IsRunning c.osc
+    → AreNextEdges w c offset a next → AreFrom n next → n ≤ 2 ^ 64
     → ((i : ℕ) → i ≤ j → 0 < i → tick_after c i < n) → AreQuiet w (copy_after w c offset) j a
-all_quiet w n offset j c a at0 at1 run next0 next1 from0 from1 few early = λ i some le. record {
-  sync0 = quiet_until w n offset a.sync0.value c at0 run next0 from0 few i some (early i le some);
-  sync1 = λ d is. quiet_until w n offset d.value c at1 run
-      (subst (λ o. IsNextEdge1 w c offset o at1) is next1) from1 few i some (early i le some);
-}
+all_quiet w n offset j c a next run are from few early = λ i some le s d is.
+    quiet_until w n offset c d (next_of s next) run (subst (λ o. IsNextEdge w c offset o (next_of s next)) is (are s)) (from s) few i some (early i le some)
 
 -- with no next edge up to t, the ticks up to t change nothing
-pub none_left : (w t offset : ℕ) (c : Clock) (a : Armed) (at0 at1 : Option ℕ) → IsRunning c.osc → c.instant ≤ t → t < 2 ^ 64
-    → IsNextEdge w c offset a.sync0.value at0 → IsNextEdge1 w c offset a.sync1 at1 → IsFrom (t + 1) at0 → IsFrom (t + 1) at1
-    → AreQuiet w (copy_after w c offset) (ticks_to c t) a
-none_left w t offset c a at0 at1 run late fits next0 next1 from0 from1 =
-    all_quiet w (t + 1) offset (ticks_to c t) c a at0 at1 run next0 next1 from0 from1 (omega arith)
+none_left : (w t offset : ℕ) (c : Clock) (a : Armed) (next : NextEdges) → IsRunning c.osc → c.instant ≤ t → t < 2 ^ 64
+    → AreNextEdges w c offset a next → AreFrom (t + 1) next → AreQuiet w (copy_after w c offset) (ticks_to c t) a
+none_left w t offset c a next run late fits are from =
+    all_quiet w (t + 1) offset (ticks_to c t) c a next run are from (omega arith)
     (λ i le some.
     let before = not_after c.osc t (ticks c.osc c.instant + i) run (omega arith) in
     omega (arith, before))
@@ -71,8 +98,7 @@ none_left w t offset c a at0 at1 run late fits next0 next1 from0 from1 =
 -- the ticks up to t, from the tick at n on: the clock that was advanced to n goes on with them
 pub record IsTurn (w offset t n : ℕ) (c : Clock) (a : Armed) : Type 0 where
   pub some : 0 < ticks_to c n
-  pub quiet : (at : Option ℕ) (v : ℕ) → IsNextEdge w c offset v at → IsFrom n at
-      → is_behind w (copy_after w c offset (ticks_to c n)) v ≡ true → IsNextEdge w (advanced w n c) offset v at
+  pub quiet : (o : Option Due) (at : Option ℕ) → IsNextEdge w c offset o at → IsFrom n at → IsNextUnlessNow w (advanced w n c) offset o at
   pub at : tick_after c (ticks_to c n) ≡ n
   pub fewer : ticks_to (advanced w n c) t < ticks_to c t
   pub unit : after_ticks w (copy_after w c offset) (ticks_to c t) a
@@ -92,10 +118,10 @@ times_on : (w n : ℕ) (c : Clock) → IsRunning c.osc → c.instant ≤ n
 times_on w n c run late = fun_ext (λ i. advanced_tick w n i c run late)
 
 -- a next edge that is not at the tick at n stays the next one
-next_on : (w n offset v : ℕ) (c : Clock) (at : Option ℕ) → IsRunning c.osc → c.instant ≤ n → n < 2 ^ 64 → 0 < ticks_to c n
-    → tick_after c (ticks_to c n) ≡ n → IsNextEdge w c offset v at → IsFrom n at
-    → is_behind w (copy_after w c offset (ticks_to c n)) v ≡ true → IsNextEdge w (advanced w n c) offset v at
-next_on w n offset v c at run late fits some is (k, next, at_is) from behind =
+next_on : (w n offset : ℕ) (c : Clock) (o : Option Due) (at : Option ℕ) → IsRunning c.osc → c.instant ≤ n → n < 2 ^ 64 → 0 < ticks_to c n
+    → tick_after c (ticks_to c n) ≡ n → IsNextEdge w c offset o at → IsFrom n at → IsNextUnlessNow w (advanced w n c) offset o at
+next_on w n offset c None at run late fits some is next from = next
+next_on w n offset c (Some d) at run late fits some is (k, next, at_is) from = λ behind.
     let j = ticks_to c n in
     let beyond : j < k = elim (cases_lt j k) [
       | inl lt ↦ lt
@@ -116,8 +142,8 @@ next_on w n offset v c at run late fits some is (k, next, at_is) from behind =
       k - j,
       record {
         after = omega (arith, beyond);
-        reached = ap (λ (f : ℕ → ℕ). is_behind w (f (k - j)) v) copies ∙ ap (λ i. is_behind w (copy_after w c offset i) v) e ∙ next.reached;
-        before = λ i first last. ap (λ (f : ℕ → ℕ). is_behind w (f i) v) copies ∙ next.before (j + i) (omega arith) (omega arith);
+        reached = ap (λ (f : ℕ → ℕ). is_behind w (f (k - j)) d.value) copies ∙ ap (λ i. is_behind w (copy_after w c offset i) d.value) e ∙ next.reached;
+        before = λ i first last. ap (λ (f : ℕ → ℕ). is_behind w (f i) d.value) copies ∙ next.before (j + i) (omega arith) (omega arith);
       },
       at_is ∙ ap within_time (ap (tick_after c) (sym e) ∙ ap (λ (f : ℕ → ℕ). f (k - j)) (sym times)),
     )
@@ -131,7 +157,7 @@ one_turn w offset t n c a run rises early fits some is quiet =
     let copies = copies_on w n offset c in
     record {
       some = some;
-      quiet = λ at v next from behind. next_on w n offset v c at run rises (omega arith) some is next from behind;
+      quiet = λ o at next from. next_on w n offset c o at run rises (omega arith) some is next from;
       at = is;
       fewer = omega (arith, on);
       unit = first_after w (copy_after w c offset) (copy_after w (advanced w n c) offset) (ticks_to c n)
@@ -140,98 +166,79 @@ one_turn w offset t n c a run rises early fits some is quiet =
           (ticks_to c n) (ticks c.osc t - ticks c.osc n) (ticks_to c t) n a some quiet on copies (times_on w n c run rises) (sym is);
     }
 
-pub quiet_before : (w offset n : ℕ) (c : Clock) (a : Armed) (at0 at1 : Option ℕ) → IsRunning c.osc → n < 2 ^ 64
-    → IsNextEdge w c offset a.sync0.value at0 → IsNextEdge1 w c offset a.sync1 at1 → IsFrom n at0 → IsFrom n at1
-    → 0 < ticks_to c n → tick_after c (ticks_to c n) ≡ n → AreQuiet w (copy_after w c offset) (ticks_to c n - 1) a
-quiet_before w offset n c a at0 at1 run fits next0 next1 from0 from1 some is =
-    all_quiet w n offset (ticks_to c n - 1) c a at0 at1 run next0 next1 from0 from1 (omega arith)
+quiet_before : (w offset n : ℕ) (c : Clock) (a : Armed) (next : NextEdges) → IsRunning c.osc → n < 2 ^ 64
+    → AreNextEdges w c offset a next → AreFrom n next → 0 < ticks_to c n → tick_after c (ticks_to c n) ≡ n
+    → AreQuiet w (copy_after w c offset) (ticks_to c n - 1) a
+quiet_before w offset n c a next run fits are from some is =
+    all_quiet w n offset (ticks_to c n - 1) c a next run are from (omega arith)
     (λ i le first.
     let rise = instants_rise c.osc (ticks c.osc c.instant + i) (ticks c.osc c.instant + ticks_to c n) run (omega arith) in
     omega (arith, rise, is))
 
 -- the instant that was found is that of a tick
-pub tick_found : (w n offset v : ℕ) (c : Clock) (at : Option ℕ) → IsRunning c.osc → IsNextEdge w c offset v at → at ≡ Some n
+tick_found : (w n offset : ℕ) (c : Clock) (o : Option Due) (at : Option ℕ) → IsRunning c.osc → IsNextEdge w c offset o at → at ≡ Some n
     → (0 < ticks_to c n) × (tick_after c (ticks_to c n) ≡ n)
-tick_found w n offset v c at run (k, next, is) found =
+tick_found w n offset c None at run none found = absurd (cc (none, found))
+tick_found w n offset c (Some d) at run (k, next, is) found =
     let e : tick_after c k ≡ n = within_is (tick_after c k) n (sym is ∙ found) in
     let j : ticks_to c n ≡ k = sym (ap (ticks_to c) e) ∙ ticks_to_tick c k run in
     (let s = next.after in omega (arith, s, j), ap (tick_after c) j ∙ e)
 
 -- between two turns of the loop: the ticks that are left give the unit and the list that all ticks would
-pub record GoesOn (w offset t : ℕ) (c₀ : Clock) (a₀ : Armed) (l₀ : Kept) (c : Clock) (a : Armed) (l : Kept) (at0 at1 : Option ℕ) : Type 0 where
+pub record GoesOn (w offset t : ℕ) (c₀ : Clock) (a₀ : Armed) (l₀ : Kept) (c : Clock) (a : Armed) (l : Kept) (next : NextEdges) : Type 0 where
   pub unit : after_ticks w (copy_after w c offset) (ticks_to c t) a ≡ after_ticks w (copy_after w c₀ offset) (ticks_to c₀ t) a₀
   pub list : put_all (ticks_edges w (copy_after w c offset) (tick_after c) (ticks_to c t) a) l
       ≡ put_all (ticks_edges w (copy_after w c₀ offset) (tick_after c₀) (ticks_to c₀ t) a₀) l₀
-  pub next0 : IsNextEdge w c offset a.sync0.value at0
-  pub next1 : IsNextEdge1 w c offset a.sync1 at1
+  pub are : AreNextEdges w c offset a next
   pub within : c.instant ≤ t
   pub run : IsRunning c.osc
 
-found : (w offset t n : ℕ) (c : Clock) (a : Armed) (at0 at1 : Option ℕ) → IsRunning c.osc → IsNextEdge w c offset a.sync0.value at0
-    → IsNextEdge1 w c offset a.sync1 at1 → IsFirst t n at0 at1 → (0 < ticks_to c n) × (tick_after c (ticks_to c n) ≡ n)
-found w offset t n c a at0 at1 run next0 next1 first = elim first.one [
-  | inl is ↦ tick_found w n offset a.sync0.value c at0 run next0 is
-  | inr is ↦ second a.sync1 next1 is
-]
-  where
-    second : (o : Option Due) → IsNextEdge1 w c offset o at1 → at1 ≡ Some n → (0 < ticks_to c n) × (tick_after c (ticks_to c n) ≡ n)
-    second None next is = absurd (cc (next, is))
-    second (Some d) next is = tick_found w n offset d.value c at1 run next is
-
-turn_of : (w offset t n : ℕ) (c : Clock) (a : Armed) (at0 at1 : Option ℕ) → t < 2 ^ 64 → IsRunning c.osc → c.instant ≤ t
-    → IsNextEdge w c offset a.sync0.value at0 → IsNextEdge1 w c offset a.sync1 at1 → IsFirst t n at0 at1
-    → (c.instant ≤ n) × IsTurn w offset t n c a
-turn_of w offset t n c a at0 at1 fits run within next0 next1 first =
-    let tick = found w offset t n c a at0 at1 run next0 next1 first in
+turn_of : (w offset t n : ℕ) (c : Clock) (a : Armed) (next : NextEdges) → t < 2 ^ 64 → IsRunning c.osc → c.instant ≤ t
+    → AreNextEdges w c offset a next → IsFirst t n next → (c.instant ≤ n) × IsTurn w offset t n c a
+turn_of w offset t n c a next fits run within are first =
+    let tick = tick_found w n offset c (due_of first.signal a) (next_of first.signal next) run (are first.signal) first.one in
     let rises : c.instant ≤ n = elim (cases_lt n c.instant) [
       | inl early ↦ let rise = ticks_rise c.osc n c.instant run (omega arith) in absurd (omega (arith, rise, tick.0))
       | inr late ↦ late
     ] in
     let early = first.within in
-    let quiet = quiet_before w offset n c a at0 at1 run (omega (arith, early)) next0 next1 first.from0 first.from1 tick.0 tick.1 in
+    let quiet = quiet_before w offset n c a next run (omega (arith, early)) are first.from tick.0 tick.1 in
     (rises, one_turn w offset t n c a run rises early fits tick.0 tick.1 quiet)
 
 -- what `advance` asks for, and that fewer ticks are left
-pub later : (w offset t n : ℕ) (c₀ : Clock) (a₀ : Armed) (l₀ : Kept) (c : Clock) (a : Armed) (l : Kept) (at0 at1 : Option ℕ) → t < 2 ^ 64
-    → GoesOn w offset t c₀ a₀ l₀ c a l at0 at1 → IsFirst t n at0 at1
-    → (c.instant ≤ n) × (ticks_to (advanced w n c) t < ticks_to c t)
-later w offset t n c₀ a₀ l₀ c a l at0 at1 fits on first =
-    let turn = turn_of w offset t n c a at0 at1 fits on.run on.within on.next0 on.next1 first in
+pub later : (w offset t n : ℕ) (c₀ : Clock) (a₀ : Armed) (l₀ : Kept) (c : Clock) (a : Armed) (l : Kept) (next : NextEdges) → t < 2 ^ 64
+    → GoesOn w offset t c₀ a₀ l₀ c a l next → IsFirst t n next → (c.instant ≤ n) × (ticks_to (advanced w n c) t < ticks_to c t)
+later w offset t n c₀ a₀ l₀ c a l next fits on first =
+    let turn = turn_of w offset t n c a next fits on.run on.within on.are first in
     (turn.0, turn.1.fewer)
 
-stays_next1 : (w offset t n : ℕ) (c : Clock) (a : Armed) (at1 : Option ℕ) → IsTurn w offset t n c a → (o : Option Due)
-    → IsNextEdge1 w c offset o at1 → IsFrom n at1 → IsNextUnlessNow1 w (advanced w n c) offset o at1
-stays_next1 w offset t n c a at1 turn None next from = next
-stays_next1 w offset t n c a at1 turn (Some d) next from = λ behind. turn.quiet at1 d.value next from behind
-
-pub goes_on : (w offset t n : ℕ) (c₀ : Clock) (a₀ : Armed) (l₀ : Kept) (c : Clock) (a : Armed) (l : Kept) (at0 at1 : Option ℕ)
-    (b : Armed) (m : Kept) (to0 to1 : Option ℕ) → t < 2 ^ 64
-    → GoesOn w offset t c₀ a₀ l₀ c a l at0 at1 → IsFirst t n at0 at1
+pub goes_on : (w offset t n : ℕ) (c₀ : Clock) (a₀ : Armed) (l₀ : Kept) (c : Clock) (a : Armed) (l : Kept) (next : NextEdges)
+    (b : Armed) (m : Kept) (to : NextEdges) → t < 2 ^ 64
+    → GoesOn w offset t c₀ a₀ l₀ c a l next → IsFirst t n next
     → b ≡ after_tick w (copy_after w c offset (ticks_to c n)) a
     → m ≡ put_all (tick_edges w (copy_after w c offset (ticks_to c n)) n a) l
-    → (IsNextUnlessNow w (advanced w n c) offset a.sync0.value at0 → IsNextEdge w (advanced w n c) offset b.sync0.value to0)
-    → (IsNextUnlessNow1 w (advanced w n c) offset a.sync1 at1 → IsNextEdge1 w (advanced w n c) offset b.sync1 to1)
-    → GoesOn w offset t c₀ a₀ l₀ (advanced w n c) b m to0 to1
-goes_on w offset t n c₀ a₀ l₀ c a l at0 at1 b m to0 to1 fits on first b_is m_is look0 look1 =
-    let turn = (turn_of w offset t n c a at0 at1 fits on.run on.within on.next0 on.next1 first).1 in
+    → ((s : Signal) → IsNextUnlessNow w (advanced w n c) offset (due_of s a) (next_of s next)
+    → IsNextEdge w (advanced w n c) offset (due_of s b) (next_of s to))
+    → GoesOn w offset t c₀ a₀ l₀ (advanced w n c) b m to
+goes_on w offset t n c₀ a₀ l₀ c a l next b m to fits on first b_is m_is look =
+    let turn = (turn_of w offset t n c a next fits on.run on.within on.are first).1 in
     record {
       unit = ap (after_ticks w (copy_after w (advanced w n c) offset) (ticks_to (advanced w n c) t)) b_is ∙ sym turn.unit ∙ on.unit;
       list =
           ap₂ (λ (u : Armed) (k : Kept). put_all (ticks_edges w (copy_after w (advanced w n c) offset) (tick_after (advanced w n c)) (ticks_to (advanced w n c) t) u) k) b_is m_is
           ∙ sym (put_all-append (tick_edges w (copy_after w c offset (ticks_to c n)) n a) _ l)
           ∙ ap (λ es. put_all es l) (sym turn.edges) ∙ on.list;
-      next0 = look0 (λ behind. turn.quiet at0 a.sync0.value on.next0 first.from0 behind);
-      next1 = look1 (stays_next1 w offset t n c a at1 turn a.sync1 on.next1 first.from1);
+      are = λ s. look s (turn.quiet (due_of s a) (next_of s next) (on.are s) (first.from s));
       within = first.within;
       run = on.run;
     }
 
-pub ends : (w offset t : ℕ) (c₀ : Clock) (a₀ : Armed) (l₀ : Kept) (c : Clock) (a : Armed) (l : Kept) (at0 at1 : Option ℕ) → t < 2 ^ 64
-    → GoesOn w offset t c₀ a₀ l₀ c a l at0 at1 → IsFrom (t + 1) at0 → IsFrom (t + 1) at1
+pub ends : (w offset t : ℕ) (c₀ : Clock) (a₀ : Armed) (l₀ : Kept) (c : Clock) (a : Armed) (l : Kept) (next : NextEdges) → t < 2 ^ 64
+    → GoesOn w offset t c₀ a₀ l₀ c a l next → AreFrom (t + 1) next
     → (a ≡ after_ticks w (copy_after w c₀ offset) (ticks_to c₀ t) a₀)
     × (l ≡ put_all (ticks_edges w (copy_after w c₀ offset) (tick_after c₀) (ticks_to c₀ t) a₀) l₀)
-ends w offset t c₀ a₀ l₀ c a l at0 at1 fits on from0 from1 =
-    let quiet = none_left w t offset c a at0 at1 on.run on.within fits on.next0 on.next1 from0 from1 in (
+ends w offset t c₀ a₀ l₀ c a l next fits on from =
+    let quiet = none_left w t offset c a next on.run on.within fits on.are from in (
       sym (quiet_after w (copy_after w c offset) (ticks_to c t) a quiet) ∙ on.unit,
       sym (ap (λ es. put_all es l) (quiet_none w (copy_after w c offset) (tick_after c) (ticks_to c t) a quiet)) ∙ on.list,
     )

@@ -3,6 +3,7 @@ use Rattle.std.specs.Prelude.{◌≡◌, ℕ, ◌+◌, ◌-◌, ◌*◌, ◌/◌
 use Rattle.std.proofs.Common.{arith, rules, refl, ap, ◌∙◌, inl, inr}
 use Rattle.std.proofs.lemmas.Int.{ints}
 use Rattle.std.proofs.lemmas.Bool.{cases_lt}
+use Rattle.std.proofs.lemmas.Option.{same_Some}
 use Rattle.std.proofs.Math.Nat.{mod-add-mod, mod-eq_of_lt}
 use Rattle.wrap_time.specs.WordDifference.{word_difference}
 use Rattle.local_clock.specs.StepRule.{elapsed}
@@ -12,7 +13,9 @@ use Rattle.local_clock.proofs.Elapsed.{elapsed_most}
 use Rattle.local_clock.proofs.Reaching.{ahead, ahead_later, behind_by, still_behind}
 use Rattle.sync_units.specs.ClockCopy.{copy_of, copy_after}
 use Rattle.sync_units.specs.Interval.{unit_at, edges_to}
-use Rattle.sync_units.specs.SyncRule.{Due, Armed}
+use Rattle.sync_units.specs.declared.edge.Signal.{Signal}
+use Rattle.sync_units.specs.declared.edge.Signal.TheVariants.{Sync0, Sync1}
+use Rattle.sync_units.specs.SyncRule.{Due, Armed, due_of}
 use Rattle.sync_units.specs.Quiet.{AreQuiet, spare_to, spare_of}
 use Rattle.sync_units.proofs.Ticks.{quiet_after, quiet_none}
 
@@ -48,23 +51,26 @@ quiet_at : (w offset v k j : ℕ) (c : Clock) → k ≤ spare_to w (copy_of w c 
 quiet_at w offset v k j c spare some le =
     beyond w offset v k j c (beyond_by (word_difference w (copy_of w c offset) v) k (omega (arith, some, le)) spare) le
 
+-- what a unit can spare, each of its signals can
+spared_of : (w x k : ℕ) (a : Armed) → k ≤ spare_of w x (Some a) → (s : Signal) (d : Due) → due_of s a ≡ Some d → k ≤ spare_to w x d.value
+spared_of w x k a spare s d due = by a.sync1 refl s due
+  where
+    by : (o : Option Due) → a.sync1 ≡ o → (s : Signal) → due_of s a ≡ Some d → k ≤ spare_to w x d.value
+    by None e Sync0 is = let same = same_Some a.sync0 d is in rw (← same) (rw e at spare)
+    by None e Sync1 is = absurd (cc (e, is))
+    by (Some due) e Sync0 is =
+        let both : k ≤ min (spare_to w x a.sync0.value) (spare_to w x due.value) = rw e at spare in
+        let same = same_Some a.sync0 d is in
+        rw (← same) (omega (arith, both))
+    by (Some due) e Sync1 is =
+        let both : k ≤ min (spare_to w x a.sync0.value) (spare_to w x due.value) = rw e at spare in
+        let same : due ≡ d = cc (e, is) in
+        rw (← same) (omega (arith, both))
+
 -- at these ticks nothing is due
 pub quiet_spared : (w offset k : ℕ) (c : Clock) (a : Armed) → k ≤ spare_of w (copy_of w c offset) (Some a) → AreQuiet w (copy_after w c offset) k a
-quiet_spared w offset k c a spare = by a.sync1 refl
-  where
-    by : (o : Option Due) → a.sync1 ≡ o → AreQuiet w (copy_after w c offset) k a
-    by None e =
-        let first : k ≤ spare_to w (copy_of w c offset) a.sync0.value = rw e at spare in λ i some le. record {
-          sync0 = quiet_at w offset a.sync0.value k i c first some le;
-          sync1 = λ d is. absurd (cc (e, is));
-        }
-    by (Some due) e =
-        let both : k ≤ min (spare_to w (copy_of w c offset) a.sync0.value) (spare_to w (copy_of w c offset) due.value) = rw e at spare in
-        let first : k ≤ spare_to w (copy_of w c offset) a.sync0.value = omega (arith, both) in
-        let second : k ≤ spare_to w (copy_of w c offset) due.value = omega (arith, both) in λ i some le. record {
-          sync0 = quiet_at w offset a.sync0.value k i c first some le;
-          sync1 = λ d is. (let same : due ≡ d = cc (e, is) in rw (← same) (quiet_at w offset due.value k i c second some le));
-        }
+quiet_spared w offset k c a spare =
+    λ i some le s d due. quiet_at w offset d.value k i c (spared_of w (copy_of w c offset) k a spare s d due) some le
 
 pub unit_spared : (w offset t : ℕ) (c : Clock) (unit : Option Armed) → ticks_to c t ≤ spare_of w (copy_of w c offset) unit → unit_at w c offset t unit ≡ unit
 unit_spared w offset t c None spare = refl

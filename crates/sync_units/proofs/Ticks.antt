@@ -4,9 +4,10 @@ use Rattle.std.specs.Option.{option_map, option_map_or}
 use Rattle.std.proofs.lemmas.List.{append-nil}
 use Rattle.local_clock.specs.FirstReaching.{is_behind}
 use Rattle.sync_units.specs.declared.edge.Edge.{Edge}
+use Rattle.sync_units.specs.declared.edge.Signal.{Signal}
 use Rattle.sync_units.specs.declared.edge.Signal.TheVariants.{Sync0, Sync1}
 use Rattle.sync_units.specs.SyncRule.{Due, Armed, due_after_tick, raised, after_tick, tick_edges, after_ticks, ticks_edges}
-use Rattle.sync_units.specs.Quiet.{AreQuiet}
+use Rattle.sync_units.specs.Quiet.{IsQuiet, AreQuiet}
 
 pub after_ticks-add : (w : ℕ) (copy : ℕ → ℕ) (j k : ℕ) (a : Armed)
     → after_ticks w copy (j + k) a ≡ after_ticks w (λ i. copy (j + i)) k (after_ticks w copy j a)
@@ -27,24 +28,23 @@ ticks_edges-add w copy time j (suc k) a =
 quiet_due : (w cycle x : ℕ) (d : Due) → is_behind w x d.value ≡ true → due_after_tick w cycle x d ≡ d
 quiet_due w cycle x d behind = rw behind refl
 
-quiet_raised : (w x at : ℕ) (d : Due) → is_behind w x d.value ≡ true → raised w Sync0 x at d ≡ []
-quiet_raised w x at d behind = rw behind refl
+quiet_raised : (w x at : ℕ) (s : Signal) (d : Due) → is_behind w x d.value ≡ true → raised w s x at d ≡ []
+quiet_raised w x at s d behind = rw behind refl
 
-quiet_tick : (w x : ℕ) (a : Armed) → is_behind w x a.sync0.value ≡ true
-    → ((d : Due) → a.sync1 ≡ Some d → is_behind w x d.value ≡ true) → after_tick w x a ≡ a
-quiet_tick w x a h0 h1 = ap₂ (λ d e. record a { sync0 = d; sync1 = e }) (quiet_due w a.cycle x a.sync0 h0) (second a.sync1 h1)
+quiet_tick : (w x : ℕ) (a : Armed) → IsQuiet w x a → after_tick w x a ≡ a
+quiet_tick w x a h = ap₂ (λ d e. record a { sync0 = d; sync1 = e }) (quiet_due w a.cycle x a.sync0 (h Sync0 a.sync0 refl)) (of_option a.sync1 (h Sync1))
   where
-    second : (o : Option Due) → ((d : Due) → o ≡ Some d → is_behind w x d.value ≡ true) → option_map (due_after_tick w a.cycle x) o ≡ o
-    second None h = refl
-    second (Some d) h = ap Some (quiet_due w a.cycle x d (h d refl))
+    of_option : (o : Option Due) → ((d : Due) → o ≡ Some d → is_behind w x d.value ≡ true) → option_map (due_after_tick w a.cycle x) o ≡ o
+    of_option None h = refl
+    of_option (Some d) h = ap Some (quiet_due w a.cycle x d (h d refl))
 
-quiet_edges : (w x at : ℕ) (a : Armed) → is_behind w x a.sync0.value ≡ true
-    → ((d : Due) → a.sync1 ≡ Some d → is_behind w x d.value ≡ true) → tick_edges w x at a ≡ []
-quiet_edges w x at a h0 h1 = rw h0 (second a.sync1 h1)
+quiet_edges : (w x at : ℕ) (a : Armed) → IsQuiet w x a → tick_edges w x at a ≡ []
+quiet_edges w x at a h =
+    ap₂ (λ (es fs : List Edge). es ++ fs) (quiet_raised w x at Sync0 a.sync0 (h Sync0 a.sync0 refl)) (of_option a.sync1 (h Sync1))
   where
-    second : (o : Option Due) → ((d : Due) → o ≡ Some d → is_behind w x d.value ≡ true) → option_map_or (raised w Sync1 x at) o [] ≡ []
-    second None h = refl
-    second (Some d) h = let b = h d refl in rw b refl
+    of_option : (o : Option Due) → ((d : Due) → o ≡ Some d → is_behind w x d.value ≡ true) → option_map_or (raised w Sync1 x at) o [] ≡ []
+    of_option None h = refl
+    of_option (Some d) h = quiet_raised w x at Sync1 d (h d refl)
 
 less_quiet : (w : ℕ) (copy : ℕ → ℕ) (n : ℕ) (a : Armed) → AreQuiet w copy (suc n) a → AreQuiet w copy n a
 less_quiet w copy n a h = λ i some le. h i some (omega arith)
@@ -54,7 +54,7 @@ quiet_after w copy zero a h = refl
 quiet_after w copy (suc n) a h =
     let here = h (suc n) (omega arith) (omega arith) in
     ap (after_tick w (copy (suc n))) (quiet_after w copy n a (less_quiet w copy n a h))
-    ∙ quiet_tick w (copy (suc n)) a here.sync0 here.sync1
+    ∙ quiet_tick w (copy (suc n)) a here
 
 pub quiet_none : (w : ℕ) (copy time : ℕ → ℕ) (n : ℕ) (a : Armed) → AreQuiet w copy n a → ticks_edges w copy time n a ≡ []
 quiet_none w copy time zero a h = refl
@@ -63,7 +63,7 @@ quiet_none w copy time (suc n) a h =
     let here = h (suc n) (omega arith) (omega arith) in
     ap₂ (λ (es : List Edge) (b : Armed). es ++ tick_edges w (copy (suc n)) (time (suc n)) b)
     (quiet_none w copy time n a less) (quiet_after w copy n a less)
-    ∙ quiet_edges w (copy (suc n)) (time (suc n)) a here.sync0 here.sync1
+    ∙ quiet_edges w (copy (suc n)) (time (suc n)) a here
 
 -- where something may first be reached at tick n: m ticks are that one and the ticks after it
 pub first_after : (w : ℕ) (copy later : ℕ → ℕ) (n k m : ℕ) (a : Armed) → 0 < n → AreQuiet w copy (n - 1) a

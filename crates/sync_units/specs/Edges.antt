@@ -1,10 +1,16 @@
--- When a signal has its edges, where its unit was armed with the due value v: a definition without a unit.
-use Rattle.std.specs.Prelude.{◌≡◌, ℕ, suc, zero, ◌+◌, ◌*◌, ◌%◌, ◌^◌, ◌<◌, ◌≤◌, min, Bool, true, false, List, length, Some, slice_get, nat_lt}
+-- When a signal has its edges, where edge 0 is due at the word v: a definition without a unit.
+use Rattle.std.specs.Prelude.{◌≡◌, ℕ, suc, zero, ◌+◌, ◌*◌, ◌%◌, ◌^◌, ◌<◌, ◌≤◌, min, Bool, true, false, List, length, Option, Some, slice_get, nat_lt}
 use Rattle.std.specs.List.{filter}
+use Rattle.std.specs.Option.{option_map}
 use Rattle.local_clock.specs.FirstReaching.{is_behind}
 use Rattle.sync_units.specs.declared.edge.Edge.{Edge}
 use Rattle.sync_units.specs.declared.edge.Signal.{Signal}
 use Rattle.sync_units.specs.declared.edge.Signal.TheVariants.{Sync0, Sync1}
+
+-- the word at which edge 0 of a signal is due, by the start and the time of SYNC1; None where the unit is armed without it
+abbrev pub start_of : ℕ → ℕ → Option ℕ → Signal → Option ℕ
+start_of w start sync1 Sync0 = Some start
+start_of w start sync1 Sync1 = option_map (λ time. (start + time) % 2 ^ w) sync1
 
 -- tick n is the least tick after tick m at which the local copy is not behind v
 pub record IsNextReached (w : ℕ) (copy : ℕ → ℕ) (v m n : ℕ) : Type 0 where

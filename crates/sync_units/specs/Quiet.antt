@@ -3,12 +3,12 @@ use Rattle.std.specs.Prelude.{◌≡◌, ℕ, ◌-◌, ◌/◌, ◌^◌, ◌<◌
 use Rattle.std.specs.Option.{option_map_or}
 use Rattle.wrap_time.specs.WordDifference.{word_difference}
 use Rattle.local_clock.specs.FirstReaching.{is_behind}
-use Rattle.sync_units.specs.SyncRule.{Due, Armed}
+use Rattle.sync_units.specs.declared.edge.Signal.{Signal}
+use Rattle.sync_units.specs.SyncRule.{Due, Armed, due_of}
 
--- the local copy x is behind what is due of both signals
-pub record IsQuiet (w x : ℕ) (a : Armed) : Type 0 where
-  pub sync0 : is_behind w x a.sync0.value ≡ true
-  pub sync1 : (d : Due) → a.sync1 ≡ Some d → is_behind w x d.value ≡ true
+-- the local copy x is behind what is due of each signal
+abbrev pub IsQuiet : ℕ → ℕ → Armed → Type 0
+IsQuiet w x a = (signal : Signal) (d : Due) → due_of signal a ≡ Some d → is_behind w x d.value ≡ true
 
 -- so it is at each of k ticks
 abbrev pub AreQuiet : ℕ → (ℕ → ℕ) → ℕ → Armed → Type 0

@@ -1,5 +1,5 @@
 -- A unit's SYNC signals, tick by tick: which edges a tick raises, and what it leaves the unit.
-use Rattle.std.specs.Prelude.{ℕ, suc, zero, ◌+◌, ◌%◌, ◌^◌, min, List, [], ◌∷◌, ◌++◌, Option, if◌then◌else◌}
+use Rattle.std.specs.Prelude.{ℕ, suc, zero, ◌+◌, ◌%◌, ◌^◌, min, List, [], ◌∷◌, ◌++◌, Option, Some, if◌then◌else◌}
 use Rattle.std.specs.Option.{option_map, option_map_or}
 use Rattle.local_clock.specs.FirstReaching.{is_behind}
 use Rattle.sync_units.specs.declared.edge.Edge.{Edge}
@@ -16,6 +16,11 @@ pub record Armed : Type 0 where
   pub cycle : ℕ
   pub sync0 : Due
   pub sync1 : Option Due
+
+-- what is due of a signal, where the unit is armed with it
+abbrev pub due_of : Signal → Armed → Option Due
+due_of Sync0 a = Some a.sync0
+due_of Sync1 a = a.sync1
 
 -- edge 0 of SYNC0 is due at the start, and that of SYNC1 its time later
 abbrev pub first_due : ℕ → Due
@@ -51,7 +56,15 @@ after_tick w x a = record {
 abbrev pub tick_edges : ℕ → ℕ → ℕ → Armed → List Edge
 tick_edges w x at a = raised w Sync0 x at a.sync0 ++ option_map_or (raised w Sync1 x at) a.sync1 []
 
--- the same over k ticks, where copy and time give the local copy and the instant of each, from tick 1 on
+-- the same for one signal of the unit
+abbrev pub after_tick_of : ℕ → ℕ → Signal → Armed → Armed
+after_tick_of w x Sync0 a = record a { sync0 = due_after_tick w a.cycle x a.sync0 }
+after_tick_of w x Sync1 a = record a { sync1 = option_map (due_after_tick w a.cycle x) a.sync1 }
+
+abbrev pub raised_of : ℕ → Signal → ℕ → ℕ → Armed → List Edge
+raised_of w signal x at a = option_map_or (raised w signal x at) (due_of signal a) []
+
+-- the unit and the edges over k ticks, where copy and time give the local copy and the instant of each, from tick 1 on
 abbrev pub after_ticks : ℕ → (ℕ → ℕ) → ℕ → Armed → Armed
 after_ticks w copy zero a = a
 after_ticks w copy (suc k) a = after_tick w (copy (suc k)) (after_ticks w copy k a)

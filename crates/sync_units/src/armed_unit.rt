@@ -1,13 +1,12 @@
-ghost use Rattle.std.specs.Prelude.{◌≡◌, ◌≤◌, ◌+◌, ⊤, [], Some, MatchOption};
-ghost use Rattle.std.specs.Option.{option_map, option_map_or};
+ghost use Rattle.std.specs.Prelude.{◌≡◌, ◌≤◌, ◌+◌, ⊤, Some, MatchOption};
 ghost use Rattle.osc_clock.specs.Ticks.{IsRunning};
 ghost use Rattle.local_clock.specs.Reading.{ticks_to};
 ghost use Rattle.local_clock.specs.FirstReaching.{is_behind, tick_after};
 ghost use Rattle.sync_units.specs.ClockCopy.{copy_of, copy_after};
-ghost use Rattle.sync_units.specs.SyncRule.{Due, armed_by, due_after_tick, raised, after_tick, tick_edges, after_ticks, ticks_edges};
+ghost use Rattle.sync_units.specs.SyncRule.{armed_by, due_of, after_tick_of, raised_of, after_tick, tick_edges, after_ticks, ticks_edges};
 ghost use Rattle.sync_units.specs.KeptEdges.{put_all};
 ghost use Rattle.sync_units.specs.Quiet.{spare_of};
-ghost use Rattle.sync_units.specs.NextEdge.{IsNextEdge, IsNextEdge1, IsNextUnlessNow, IsNextUnlessNow1, IsFrom, IsFirst};
+ghost use Rattle.sync_units.specs.NextEdge.{next_of, IsNextEdge, IsNextUnlessNow, AreNextEdges, AreFrom, IsFirst};
 
 use crate::edge::Signal;
 use crate::edge_list::EdgeList;
@@ -27,8 +26,7 @@ struct NextEdges {
 impl NextEdges {
     // The earlier of them, if it is at or before t.
     fn first_until(self, t: u64) -> Option<u64>
-        ensures { MatchOption result (IsFrom (t + 1) self.sync0 × IsFrom (t + 1) self.sync1)
-            (λ n. IsFirst t n self.sync0 self.sync1) }
+        ensures { MatchOption result (AreFrom (t + 1) self) (λ n. IsFirst t n self) }
     {
         let first = match (self.sync0, self.sync1) {
             (Some(a), Some(b)) => a.min(b),
@@ -136,8 +134,7 @@ impl<W: ClockWord> ArmedUnit<W> {
 
     // When each signal has its next edge.
     fn next_edges(&self, clock: &LocalClock<W>, offset: W) -> NextEdges
-        ensures sync0 { IsNextEdge W.WIDTH clock.now (W.number offset) self.now.sync0.value result.sync0 }
-        ensures sync1 { IsNextEdge1 W.WIDTH clock.now (W.number offset) self.now.sync1 result.sync1 }
+        ensures next { AreNextEdges W.WIDTH clock.now (W.number offset) self.now result }
         ensures running { IsRunning clock.now.osc }
     {
         NextEdges {
@@ -146,7 +143,7 @@ impl<W: ClockWord> ArmedUnit<W> {
         }
     }
 
-    // Takes the tick at which the clock stands, as `NextDue::take_tick` does for each signal.
+    // Takes the tick at which the clock stands, as `NextDue::take_tick` does, for each signal.
     fn take_tick(
         &mut self,
         clock: &LocalClock<W>,
@@ -157,36 +154,46 @@ impl<W: ClockWord> ArmedUnit<W> {
         ensures unit { self.new ≡ after_tick W.WIDTH (copy_of W.WIDTH clock.now (W.number offset)) self.old }
         ensures list { let copy = copy_of W.WIDTH clock.now (W.number offset) in
             list.new ≡ put_all (tick_edges W.WIDTH copy clock.now.instant self.old) list.old }
-        ensures sync0 { IsNextUnlessNow W.WIDTH clock.now (W.number offset) self.old.sync0.value next.sync0
-            → IsNextEdge W.WIDTH clock.now (W.number offset) self.new.sync0.value result.sync0 }
-        ensures sync1 { IsNextUnlessNow1 W.WIDTH clock.now (W.number offset) self.old.sync1 next.sync1
-            → IsNextEdge1 W.WIDTH clock.now (W.number offset) self.new.sync1 result.sync1 }
+        ensures next { (signal : Signal)
+            → IsNextUnlessNow W.WIDTH clock.now (W.number offset) (due_of signal self.old) (next_of signal next)
+            → IsNextEdge W.WIDTH clock.now (W.number offset) (due_of signal self.new) (next_of signal result) }
     {
-        let sync0 = self
-            .sync0
-            .take_tick(Signal::Sync0, self.cycle, clock, offset, next.sync0, list);
-        let sync1 = self.take_tick1(clock, offset, next.sync1, list);
+        let sync0 = self.take_tick_of(Signal::Sync0, clock, offset, next.sync0, list);
+        let sync1 = self.take_tick_of(Signal::Sync1, clock, offset, next.sync1, list);
         NextEdges { sync0, sync1 }
     }
 
-    // Takes the tick at which the clock stands for SYNC1, as `NextDue::take_tick` does.
-    fn take_tick1(
+    // The same for one signal.
+    fn take_tick_of(
         &mut self,
+        signal: Signal,
         clock: &LocalClock<W>,
         offset: W,
         next: Option<u64>,
         list: &mut EdgeList,
     ) -> Option<u64>
-        ensures unit { let copy = copy_of W.WIDTH clock.now (W.number offset) in
-            self.new ≡ record self.old { sync1 = option_map (due_after_tick W.WIDTH self.old.cycle copy) self.old.sync1 } }
+        ensures unit { self.new ≡ after_tick_of W.WIDTH (copy_of W.WIDTH clock.now (W.number offset)) signal self.old }
         ensures list { let copy = copy_of W.WIDTH clock.now (W.number offset) in
-            list.new ≡ put_all (option_map_or (raised W.WIDTH Signal.Sync1 copy clock.now.instant) self.old.sync1 []) list.old }
-        ensures next { IsNextUnlessNow1 W.WIDTH clock.now (W.number offset) self.old.sync1 next
-            → IsNextEdge1 W.WIDTH clock.now (W.number offset) self.new.sync1 result }
+            list.new ≡ put_all (raised_of W.WIDTH signal copy clock.now.instant self.old) list.old }
+        ensures next { IsNextUnlessNow W.WIDTH clock.now (W.number offset) (due_of signal self.old) next
+            → IsNextEdge W.WIDTH clock.now (W.number offset) (due_of signal self.new) result }
     {
-        let mut due = self.sync1?;
-        let next = due.take_tick(Signal::Sync1, self.cycle, clock, offset, next, list);
-        self.sync1 = Some(due);
+        let mut due = self.due(signal)?;
+        let next = due.take_tick(signal, self.cycle, clock, offset, next, list);
+        match signal {
+            Signal::Sync0 => self.sync0 = due,
+            Signal::Sync1 => self.sync1 = Some(due),
+        }
         next
+    }
+
+    // What is due of a signal, where the unit is armed with it.
+    fn due(&self, signal: Signal) -> Option<NextDue<W>>
+        ensures { result ≡ due_of signal self.now }
+    {
+        match signal {
+            Signal::Sync0 => Some(self.sync0),
+            Signal::Sync1 => self.sync1,
+        }
     }
 }

@@ -1,6 +1,6 @@
 //! Laws over the definitions alone, for proofs of the layers above.
 
-ghost use Rattle.std.specs.Prelude.{◌≡◌, ℕ, ◌+◌, ◌%◌, ◌^◌, ◌<◌, ◌≤◌, List, [], ◌++◌, take, Option, Some, None};
+ghost use Rattle.std.specs.Prelude.{◌≡◌, ℕ, ◌+◌, ◌^◌, ◌<◌, ◌≤◌, List, [], ◌++◌, take, Option, Some, None};
 ghost use Rattle.osc_clock.specs.Ticks.{Oscillator, IsRunning, ticks, instant};
 ghost use Rattle.sync_units.specs.declared.edge.Edge.{Edge};
 ghost use Rattle.sync_units.specs.declared.edge.Signal.{Signal};
@@ -10,7 +10,7 @@ ghost use Rattle.sync_units.specs.ClockCopy.{copy_of};
 ghost use Rattle.sync_units.specs.Interval.{unit_at, edges_to};
 ghost use Rattle.sync_units.specs.Quiet.{AreQuiet, spare_of};
 ghost use Rattle.sync_units.specs.KeptEdges.{Kept, empty_list, put_all};
-ghost use Rattle.sync_units.specs.Edges.{EdgeAt, AreEdges, edges_of, first_edges};
+ghost use Rattle.sync_units.specs.Edges.{EdgeAt, AreEdges, start_of, edges_of, first_edges};
 ghost use Rattle.sync_units.specs.Calls.{Call, AreInTurn, ticks_of_calls, copy_in, unit_after_calls, list_after_calls};
 
 /// The edges of j + k ticks are those of j ticks, and then those of k ticks from the unit that they
@@ -32,21 +32,22 @@ pub fn quiet_ticks()
 
 /// Ticks that a unit can spare leave it as it is, and raise nothing; behind them it can spare what is left of them.
 pub fn spare_ticks()
-    ensures unit { (w offset t : ℕ) (c : Clock) (unit : Option Armed) → ticks_to c t ≤ spare_of w (copy_of w c offset) unit → unit_at w c offset t unit ≡ unit }
-    ensures edges { (w offset t : ℕ) (c : Clock) (unit : Option Armed) → ticks_to c t ≤ spare_of w (copy_of w c offset) unit → edges_to w c offset t unit ≡ [] }
-    ensures left { (w offset t : ℕ) (c : Clock) (unit : Option Armed) → spare_of w (copy_of w c offset) unit ≤ ticks_to c t + spare_of w (copy_of w (advanced w t c) offset) unit }
+    ensures unit { (w offset t : ℕ) (c : Clock) (unit : Option Armed)
+        → ticks_to c t ≤ spare_of w (copy_of w c offset) unit → unit_at w c offset t unit ≡ unit }
+    ensures edges { (w offset t : ℕ) (c : Clock) (unit : Option Armed)
+        → ticks_to c t ≤ spare_of w (copy_of w c offset) unit → edges_to w c offset t unit ≡ [] }
+    ensures left { (w offset t : ℕ) (c : Clock) (unit : Option Armed)
+        → spare_of w (copy_of w c offset) unit ≤ ticks_to c t + spare_of w (copy_of w (advanced w t c) offset) unit }
 {}
 
 /// A unit that was armed raises, up to tick n, exactly the edges of the definition, each once and in
 /// the order of their indices, whatever the copies are.
 pub fn exact_edges()
-    ensures sync0 { (w : ℕ) (copy time : ℕ → ℕ) (n v cycle : ℕ) (sync1 : Option ℕ) → v < 2 ^ w
-        → AreEdges w copy time cycle v Signal.Sync0 n (edges_of Signal.Sync0 (ticks_edges w copy time n (armed_by w v cycle sync1))) }
-    ensures sync1 { (w : ℕ) (copy time : ℕ → ℕ) (n v cycle shift : ℕ)
-        → AreEdges w copy time cycle ((v + shift) % 2 ^ w) Signal.Sync1 n
-        (edges_of Signal.Sync1 (ticks_edges w copy time n (armed_by w v cycle (Some shift)))) }
-    ensures none { (w : ℕ) (copy time : ℕ → ℕ) (n v cycle : ℕ)
-        → edges_of Signal.Sync1 (ticks_edges w copy time n (armed_by w v cycle None)) ≡ [] }
+    ensures edges { (w : ℕ) (copy time : ℕ → ℕ) (n start cycle v : ℕ) (sync1 : Option ℕ) (signal : Signal)
+        → start_of w start sync1 signal ≡ Some v → v < 2 ^ w
+        → AreEdges w copy time cycle v signal n (edges_of signal (ticks_edges w copy time n (armed_by w start cycle sync1))) }
+    ensures none { (w : ℕ) (copy time : ℕ → ℕ) (n start cycle : ℕ) (sync1 : Option ℕ) (signal : Signal)
+        → start_of w start sync1 signal ≡ None → edges_of signal (ticks_edges w copy time n (armed_by w start cycle sync1)) ≡ [] }
     ensures once { (w : ℕ) (copy : ℕ → ℕ) (cycle v k m n : ℕ)
         → EdgeAt w copy cycle v k m → EdgeAt w copy cycle v k n → m ≡ n }
 {}

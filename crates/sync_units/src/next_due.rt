@@ -1,6 +1,5 @@
-ghost use Rattle.std.specs.Prelude.{◌≡◌, true, ⊤};
+ghost use Rattle.std.specs.Prelude.{◌≡◌, Some, ⊤};
 ghost use Rattle.osc_clock.specs.Ticks.{IsRunning};
-ghost use Rattle.local_clock.specs.FirstReaching.{is_behind};
 ghost use Rattle.sync_units.specs.ClockCopy.{copy_of};
 ghost use Rattle.sync_units.specs.SyncRule.{first_due, due_after_tick, raised};
 ghost use Rattle.sync_units.specs.KeptEdges.{put_all};
@@ -67,7 +66,7 @@ impl<W: ClockWord> NextDue<W> {
     /// The instant of the next edge, in fs, where nothing else happens to the clock; `None` where
     /// that is above 2^64 - 1.
     pub(crate) fn next_edge(&self, clock: &LocalClock<W>, offset: W) -> Option<u64>
-        ensures at { IsNextEdge W.WIDTH clock.now (W.number offset) self.now.value result }
+        ensures at { IsNextEdge W.WIDTH clock.now (W.number offset) (Some self.now) result }
         ensures running { IsRunning clock.now.osc }
     {
         // the local copy has reached the due value where the local time has reached this
@@ -102,8 +101,8 @@ impl<W: ClockWord> NextDue<W> {
         ensures due { self.new ≡ due_after_tick W.WIDTH cycle (copy_of W.WIDTH clock.now (W.number offset)) self.old }
         ensures list { let copy = copy_of W.WIDTH clock.now (W.number offset) in
             list.new ≡ put_all (raised W.WIDTH signal copy clock.now.instant self.old) list.old }
-        ensures next { IsNextUnlessNow W.WIDTH clock.now (W.number offset) self.old.value next
-            → IsNextEdge W.WIDTH clock.now (W.number offset) self.new.value result }
+        ensures next { IsNextUnlessNow W.WIDTH clock.now (W.number offset) (Some self.old) next
+            → IsNextEdge W.WIDTH clock.now (W.number offset) (Some self.new) result }
     {
         let copy = clock.reading().add(offset.value());
         if copy.diff(self.value) < 0 {

@@ -61,7 +61,7 @@ fn answer_in(slave: &mut Slave, frame: &mut Frame, k: usize, room: &mut [u8]) ->
     written.unwrap_or(false)
 }
 
-// Leaves of datagram k what the slave made of it; its data only where it was read.
+// Puts into datagram k what the slave made of it; its data only where it was read.
 fn reply(frame: &mut Frame, k: usize, read: bool, adp: u16, payload: &[u8], wkc: u16)
     requires within { k < length frame.old.datagrams }
     requires size { IfSome (slice_get frame.old.datagrams k) (λ d. length payload.now ≡ length d.payload) }
@@ -75,7 +75,7 @@ fn reply(frame: &mut Frame, k: usize, read: bool, adp: u16, payload: &[u8], wkc:
     }
 }
 
-// Leaves the ADP of datagram k, which was `before`.
+// Sets the ADP of datagram k, which was `before`; one that stays is not written.
 fn leave_adp(frame: &mut Frame, k: usize, before: u16, adp: u16)
     requires within { k < length frame.old.datagrams }
     requires before { IfSome (slice_get frame.old.datagrams k) (λ d. before ≡ d.head.adp) }
@@ -87,7 +87,7 @@ fn leave_adp(frame: &mut Frame, k: usize, before: u16, adp: u16)
     }
 }
 
-// Leaves the working counter of datagram k, which was `before`.
+// Sets the working counter of datagram k, which was `before`; one that stays is not written.
 fn leave_wkc(frame: &mut Frame, k: usize, before: u16, wkc: u16)
     requires within { k < length frame.old.datagrams }
     requires before { IfSome (slice_get frame.old.datagrams k) (λ d. before ≡ d.wkc) }
@@ -112,7 +112,7 @@ fn done_by(request: Doing, acts: bool) -> Doing
     if acts { request } else { Doing::Passes }
 }
 
-// Tells whether the slave reads, and then puts the data behind it into the room.
+// Tells whether the slave reads, and then puts the data with which the datagram leaves it into the room.
 fn gather(slave: &Slave, request: Doing, datagram: &Datagram, room: &mut [u8]) -> bool
     requires request { doing_seen request ≡ asked slave.now (seen datagram.now) }
     requires size { length room.old ≡ length datagram.now.payload.now }
@@ -142,7 +142,7 @@ fn merge_if(merges: bool, payload: &[u8], room: &mut [u8])
     }
 }
 
-// Adds the data to what was read, bit by bit.
+// Ors the data that came, bit by bit, into what was read, as a broadcast read does.
 fn merge(payload: &[u8], room: &mut [u8])
     requires { length payload.now ≡ length room.old }
     ensures { room.new ≡ merged payload.now room.old }

@@ -1,4 +1,4 @@
-use Rattle.std.proofs.Common.{◌-◌, arith, ap}
+use Rattle.std.proofs.Common.{arith, ap}
 use Rattle.osc_clock.specs.Ticks.{ticks}
 use Rattle.osc_clock.proofs.TickLaws.{ticks_rise}
 use Rattle.osc_clock.proofs.ticker.Ticker.count_to.Goals as goal

@@ -2,27 +2,22 @@ use Rattle.sync_units.proofs.NextEdges.{later, goes_on, ends}
 use Rattle.sync_units.proofs.armed_unit.ArmedUnit.raise_until.Goals as goal
 
 pub advance-requires : goal.advance-requires
-advance-requires g c = (later _ _ _ _ _ _ _ _ _ _ _ _ c.ranges.t.fits c.loop-tick.invariant c.in-Some.ensures).0
+advance-requires g c = (later _ _ _ _ _ _ _ _ _ _ _ c.ranges.t.fits c.loop-tick.invariant c.in-Some.ensures).0
 
 pub loop-tick-smaller : goal.loop-tick-smaller
 loop-tick-smaller g c =
-    rw c.advance.ensures.is ((later _ _ _ _ _ _ _ _ _ _ _ _ c.ranges.t.fits c.loop-tick.invariant c.in-Some.ensures).1)
+    rw c.advance.ensures.is ((later _ _ _ _ _ _ _ _ _ _ _ c.ranges.t.fits c.loop-tick.invariant c.in-Some.ensures).1)
 
 pub loop-tick-preserved : goal.loop-tick-preserved
 loop-tick-preserved g c =
     let e = c.advance.ensures.is in
     rw e
-    (goes_on _ _ _ c.in-Some.tick _ _ _ _ _ _ _ _ c.take_tick-next.new.self c.take_tick-next.new.list
-    c.take_tick-next.result.sync0 c.take_tick-next.result.sync1 c.ranges.t.fits c.loop-tick.invariant c.in-Some.ensures
-    (rw e at c.take_tick-next.ensures.unit) (rw e at c.take_tick-next.ensures.list)
-    (rw e at c.take_tick-next.ensures.sync0) (rw e at c.take_tick-next.ensures.sync1))
+    (goes_on _ _ _ c.in-Some.tick _ _ _ _ _ _ _ c.take_tick-next.new.self c.take_tick-next.new.list
+    c.take_tick-next.result c.ranges.t.fits c.loop-tick.invariant c.in-Some.ensures
+    (rw e at c.take_tick-next.ensures.unit) (rw e at c.take_tick-next.ensures.list) (rw e at c.take_tick-next.ensures.next))
 
 pub returns-clause-unit : goal.returns-clause-unit
-returns-clause-unit g c =
-    let none = c.in_default.ensures in
-    (ends _ _ _ _ _ _ _ _ _ _ _ c.ranges.t.fits c.loop-tick.invariant none.0 none.1).0
+returns-clause-unit g c = (ends _ _ _ _ _ _ _ _ _ _ c.ranges.t.fits c.loop-tick.invariant c.in_default.ensures).0
 
 pub returns-clause-list : goal.returns-clause-list
-returns-clause-list g c =
-    let none = c.in_default.ensures in
-    (ends _ _ _ _ _ _ _ _ _ _ _ c.ranges.t.fits c.loop-tick.invariant none.0 none.1).1
+returns-clause-list g c = (ends _ _ _ _ _ _ _ _ _ _ c.ranges.t.fits c.loop-tick.invariant c.in_default.ensures).1

@@ -4,7 +4,7 @@ use Rattle.sync_units.proofs.armed_unit.ArmedUnit.raise_until.Given as goal
 
 abbrev pub invariant-loop-tick : goal.invariant-loop-tick
 invariant-loop-tick g l =
-    GoesOn g.W.ClockWord.WIDTH (g.W.ClockWord.number l.offset) l.t l.fn.clock l.fn.self l.fn.list l.clock l.self l.list l.next.sync0 l.next.sync1
+    GoesOn g.W.ClockWord.WIDTH (g.W.ClockWord.number l.offset) l.t l.fn.clock l.fn.self l.fn.list l.clock l.self l.list l.next
 
 abbrev pub decreases-loop-tick : goal.decreases-loop-tick
 decreases-loop-tick g l = ticks_to l.clock l.t

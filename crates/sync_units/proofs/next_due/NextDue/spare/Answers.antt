@@ -1,5 +1,5 @@
 use Rattle.std.specs.Prelude.{◌≡◌, ℕ, ◌+◌, ◌%◌, ◌^◌, pos, ◌<ℤ◌, ◌≤ℤ◌, unsigned_abs}
-use Rattle.std.proofs.Common.{arith, rules, ap, ap₂, ◌∙◌, subst, w64}
+use Rattle.std.proofs.Common.{arith, rules, ap, ap₂, ◌∙◌, w64}
 use Rattle.std.proofs.lemmas.Int.{ints, to_z-of_z}
 use Rattle.wrap_time.specs.WordDifference.{word_difference}
 use Rattle.sync_units.specs.ClockCopy.{copy_of}
