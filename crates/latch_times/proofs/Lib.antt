@@ -4,6 +4,7 @@ pub mod Passing
 pub mod LatchFrames
 pub mod Stepping
 pub mod Places
+pub mod Widths
 pub mod Told
 pub mod Measuring
 pub mod Frames

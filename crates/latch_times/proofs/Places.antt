@@ -127,7 +127,7 @@ module _ (s : SegmentValue) (legal : IsLegal s) where
   pub keeps_there : (q : ℕ) → q < length s.rows → measures (kind_at s q) ≡ true → IsRunning (oscillator (row_there s q)) × IsWithin s.head.ppm (oscillator (row_there s q))
   keeps_there q low is = All-get_or (KeepsTime s.head.ppm) s.rows (row_at s q) no_row (row_low q low) (legal_clocks s legal) is
 
-  visits_there : (q : ℕ) (v : Slave) → IsFixed s q v → v.visits ≡ visits_of (tree_rows s.rows) (row_at s q)
+  pub visits_there : (q : ℕ) (v : Slave) → IsFixed s q v → v.visits ≡ visits_of (tree_rows s.rows) (row_at s q)
   unfolding slave_of
   visits_there q v fixed = ap (λ p. p.visits) fixed
 

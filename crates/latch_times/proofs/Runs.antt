@@ -2,11 +2,14 @@
 use Rattle.std.proofs.Common.{◌≡◌, ℕ, zero, suc, ◌+◌, ◌*◌, ◌<◌, ◌⊎◌, List, [], ◌∷◌, ◌++◌, ◌%◌, ◌^◌, length, map, replicate, Option, Some, None, true, refl, sym, ap, ap₂, subst, ◌∙◌, append_assoc, arith, inl, inr}
 use Rattle.std.specs.Prelude.{IfSome}
 use Rattle.std.specs.List.{AllByRecursion, range_with_len}
+use Rattle.std.proofs.Math.Nat.{mod-lt}
 use Rattle.std.proofs.lemmas.List.{append-nil}
+use Rattle.std.proofs.lemmas.Nat.{pow_pos}
 use Rattle.cable_tree.specs.Positions.{position_of}
 use Rattle.dc_bounds.specs.LockNumbers.{period_fs}
 use Rattle.dc_delay.specs.ShapeRows.{positions}
 use Rattle.ecat_frame.specs.FrameGrammar.{FrameValue}
+use Rattle.esc_regs.specs.RegisterBytes.{number_at}
 use Rattle.ecat_link.specs.Exchanges.{Exchange, Runs}
 use Rattle.ecat_link.specs.Serves.{Send, Sends}
 use Rattle.segment_file.specs.Legal.{IsLegal}
@@ -16,13 +19,13 @@ use Rattle.segment_shape.specs.Slaves.{measures}
 use Rattle.segment_start.specs.Start.{started_segment}
 use Rattle.segment_start.proofs.Starts.{as_many, starts_timely}
 use Rattle.frame_pass.specs.FramePass.{datagrams_behind}
-use Rattle.frame_pass.specs.SlaveState.{Slave, Timing}
+use Rattle.frame_pass.specs.SlaveState.{Slave, Timing, width as clock_width}
 use Rattle.frame_pass.specs.Invariants.{IsSoundSegment}
 use Rattle.frame_pass.specs.SegmentState.{SegmentState, leaves_at, segment_step}
 use Rattle.frame_pass.proofs.Schedule.{next_leaves}
 use Rattle.frame_pass.proofs.Sound.{timely_step}
 use Rattle.master_script.specs.Config.{ConfigValue}
-use Rattle.master_script.specs.Frames.{times_datagrams}
+use Rattle.master_script.specs.Frames.{times_datagrams, width as bytes_by}
 use Rattle.master_script.specs.Progress.{Commissioning, Progress, after, asked, asked_by, counted, later_steps, moved, progress}
 use Rattle.master_script.specs.Script.{Commission, asks_next, next_by, next_in, script, sends}
 use Rattle.master_script.specs.Scripted.{AreScripted, more, none}
@@ -55,7 +58,8 @@ use Rattle.latch_times.proofs.Frames.{fixed_step, holds_step, latch_step, rests_
 use Rattle.latch_times.proofs.Measuring.{IsFirst, IsJudged, IsLatched, IsMeasuring, IsOpen, IsUnjudged, first_asked, latch_asked, rate_asked, reading_asked, reading_steps}
 use Rattle.latch_times.proofs.Places.{IsFixed, fixed_first, has_there, rests_first, arrives_there, back_there}
 use Rattle.latch_times.proofs.Stepping.{AtEach, sound_at}
-use Rattle.latch_times.proofs.Told.{arrival_is, port_is}
+use Rattle.latch_times.proofs.Told.{arrival_is, port_is, unit_is}
+use Rattle.latch_times.proofs.Widths.{wide_told, word_told}
 
 some_same : {X : Type 0} {x y : X} → Some x ≡ Some y → x ≡ y
 some_same e = cc
@@ -64,11 +68,11 @@ none_some : {X : Type 0} (x : X) (A : Type 0) → None ≡ Some x → A
 none_some x A e = absurd (let z = e in cc)
 
 -- the first of the steps is asked
-record IsAsked (cfg : ConfigValue) (p : Progress) (frame : FrameValue) (todo : List Step) : Type 0 where
-  step : Step
-  rest : List Step
-  are : todo ≡ step ∷ rest
-  is : frame ≡ frame_of cfg p.words step
+pub record IsAsked (cfg : ConfigValue) (p : Progress) (frame : FrameValue) (todo : List Step) : Type 0 where
+  pub step : Step
+  pub rest : List Step
+  pub are : todo ≡ step ∷ rest
+  pub is : frame ≡ frame_of cfg p.words step
 
 module _ (cfg : ConfigValue) (p : Progress) (wait_ns : ℕ) (frame : FrameValue) where
   sent_of : (step : Step) → sends cfg p step ≡ Send wait_ns frame → frame ≡ frame_of cfg p.words step
@@ -136,20 +140,20 @@ module _ (s : SegmentValue) (legal : IsLegal s) where
     abbrev u : SegmentState
     u = (segment_step t e.wait_ns e.sent).0
 
-    unrefused : p.refused ≡ None
+    pub unrefused : p.refused ≡ None
     unrefused = (in_phase cfg Commission es e.wait_ns e.sent next).0
 
-    phase : p.phase ≡ Commissioning
+    pub phase : p.phase ≡ Commissioning
     phase = (in_phase cfg Commission es e.wait_ns e.sent next).1
 
-    asks : IsAsked cfg p e.sent p.todo
+    pub asks : IsAsked cfg p e.sent p.todo
     asks = asked_of cfg p e.wait_ns e.sent p.todo
         (sym (wanted cfg es ∙ ap (next_by cfg p Commission) unrefused ∙ ap (next_in cfg p Commission) phase) ∙ next)
 
-    after_is : (step : Step) (rest : List Step) → p.todo ≡ step ∷ rest → after cfg p e ≡ asked_by cfg (counted p e.back) step rest e.sent e.back
+    pub after_is : (step : Step) (rest : List Step) → p.todo ≡ step ∷ rest → after cfg p e ≡ asked_by cfg (counted p e.back) step rest e.sent e.back
     after_is step rest are = moved_by cfg p e unrefused phase ∙ ap (asked cfg (counted p e.back) e.sent e.back) are
 
-    sends_step : (step : Step) (rest : List Step) → p.todo ≡ step ∷ rest → e.sent.datagrams ≡ datagrams_of cfg p.words step
+    pub sends_step : (step : Step) (rest : List Step) → p.todo ≡ step ∷ rest → e.sent.datagrams ≡ datagrams_of cfg p.words step
     sends_step step rest are =
         ap (λ (f : FrameValue). f.datagrams) (asks.is ∙ ap (frame_of cfg p.words) (let z : asks.step ∷ asks.rest ≡ step ∷ rest = sym asks.are ∙ are in cc)) ∙ sent_by cfg p.words step
 
@@ -201,6 +205,11 @@ module _ (s : SegmentValue) (legal : IsLegal s) where
                   ∙ held.port0 ∙ ap (λ a. shown_at (row_there s q) (p.words.latched * period_fs s.head.frame_ns + a) % 2 ^ 32) (arrives_there s legal q v.slave fixed);
               ports = λ port at is. port_is (kind_at s) (status_at s) (length s.rows) (leaves_at t e.wait_ns) t.slaves late.are q v.slave v.is wide mindful does g ds port size
                   ∙ held.ports port at (back_there s legal q v.slave fixed port ∙ is);
+              unit = unit_is (kind_at s) (status_at s) (length s.rows) (leaves_at t e.wait_ns) t.slaves late.are q v.slave v.is wide mindful does g ds size
+                  ∙ ap (λ b. number_at (bytes_by b) 0x0918 v.slave.registers.bytes) (wide_told (kind_at s) (status_at s) (length s.rows) p.words q late.knows.slaves low)
+                  ∙ word_told (kind_at s q) 0x0918 (shown_at (row_there s q) (p.words.latched * period_fs s.head.frame_ns + v.slave.visits.arrive)) v.slave.registers.bytes held.unit
+                  (mod-lt _ (pow_pos (clock_width (kind_at s q))))
+                  ∙ ap (λ a. shown_at (row_there s q) (p.words.latched * period_fs s.head.frame_ns + a)) (arrives_there s legal q v.slave fixed);
             },
           ),
         )

@@ -1,5 +1,5 @@
 -- What the reply to Times tells of a slave that holds its receive times.
-use Rattle.std.proofs.Common.{◌≡◌, ℕ, ◌+◌, ◌<◌, ◌≤◌, List, length, drop, Some, Bool, true, nat_lt, refl, ap, subst, ◌∙◌, arith, inl, inr}
+use Rattle.std.proofs.Common.{◌≡◌, ℕ, ◌+◌, ◌<◌, ◌≤◌, List, [], ◌∷◌, length, drop, Some, Bool, true, false, nat_lt, refl, ap, subst, ◌∙◌, arith, inl, inr}
 use Rattle.std.specs.Prelude.{not, slice_get, slice_index}
 use Rattle.std.proofs.lemmas.Bool.Decides.{nat_tests}
 use Rattle.std.proofs.lemmas.Option.{get_or_from_slice_get}
@@ -12,26 +12,51 @@ use Rattle.ecat_frame.specs.declared.command.Command.TheVariants.{Fprd}
 use Rattle.esc_regs.specs.RegisterBytes.{number_at}
 use Rattle.esc_regs.specs.declared.clock_kind.ClockKind.{ClockKind}
 use Rattle.frame_pass.specs.SlaveState.{Slave, holds}
+use Rattle.frame_pass.specs.DatagramAtSlave.{slave_after}
 use Rattle.frame_pass.specs.FramePass.{at_arrival, datagrams_behind}
 use Rattle.segment_shape.specs.Slaves.{measures}
 use Rattle.visit_laws.specs.Counters.{slave_before}
 use Rattle.visit_laws.specs.Stations.{BringsBack, slave_found}
+use Rattle.visit_laws.specs.Aside.{never_writes}
+use Rattle.visit_laws.proofs.Asides.{idle}
+use Rattle.visit_laws.proofs.Counting.{is_sent}
 use Rattle.visit_laws.proofs.Effects.{times_left}
 use Rattle.visit_laws.proofs.Stations.{Found, found}
-use Rattle.master_script.specs.Frames.{asks, blank, station, times_datagrams}
+use Rattle.master_script.specs.Frames.{asks, blank, station, times_datagrams, width}
 use Rattle.master_script.specs.Steps.{data_at, latch_in}
 use Rattle.named_slaves.specs.Addressed.{ByStation}
 use Rattle.named_slaves.specs.Mindful.{AreMindful}
-use Rattle.named_slaves.specs.Standing.{Stands}
+use Rattle.named_slaves.specs.Standing.{Stands, own_address}
 use Rattle.named_slaves.proofs.Answering.{read_there}
 use Rattle.named_slaves.proofs.Frames.{found_standing, low_where}
 use Rattle.honest_replies.specs.Told.{AreInOrder}
 use Rattle.latch_times.specs.HeldTimes.{port_register}
-use Rattle.honest_replies.proofs.ByKind.{ports_for_measuring}
+use Rattle.honest_replies.proofs.ByKind.{IsFor, ports_for_measuring, unit_for_measuring}
 
--- the datagram that reads the receive times of the ports
+-- the datagram that reads the receive times of the ports, and that of the processing unit
 abbrev asked : ℕ → DatagramValue
 asked p = asks 0 Fprd (station p) 0x0900 (blank 16)
+
+abbrev asked_unit : ℕ → Bool → DatagramValue
+asked_unit p wide = asks 1 Fprd (station p) 0x0918 (blank (width wide))
+
+unit_for : (wide : Bool) → IsFor measures 0x0918 (length (blank (width wide)))
+unit_for true = unit_for_measuring true
+unit_for false = unit_for_measuring false
+
+unit_long : (wide : Bool) → length (blank (width wide)) ≡ width wide
+unit_long true = refl
+unit_long false = refl
+
+few_bytes : (wide : Bool) → width wide ≤ 8
+few_bytes true = omega arith
+few_bytes false = omega arith
+
+-- a first datagram that reads leaves the slave to the second
+read_first : (s : Slave) (ds : List DatagramValue) (g : DatagramValue) → slice_get ds 0 ≡ Some g → never_writes g.head.command ≡ true → slave_before 1 s ds ≡ s
+unfolding slave_before slave_after
+read_first s [] g is never = refl
+read_first s (d ∷ ds) g is never = let same : d ≡ g = (let z = is in cc) in rw (idle s d (ap (λ x. never_writes x.head.command) same ∙ never)) refl
 
 is_below : (p n : ℕ) → p < n → nat_lt p n ≡ true
 is_below p n low = grind (arith, nat_tests)
@@ -60,23 +85,24 @@ module _ (kinds : ℕ → ClockKind) (statuses : ℕ → ℕ) (n sent : ℕ) (ss
   abbrev here : Slave
   here = slave_found 0 p sent ss (times_datagrams p wide) v
 
-  by_station : ByStation kinds statuses n 0 p sent ss (times_datagrams p wide) (asked p) v
-  by_station = record {
+  by_station : (k : ℕ) (d : DatagramValue) → slice_get (times_datagrams p wide) k ≡ Some d → d.head.adp ≡ own_address p → d.wkc ≡ 0 → ByStation kinds statuses n k p sent ss (times_datagrams p wide) d v
+  by_station k d is adp fresh = record {
     few = few;
     standing = are.standing;
     mindful = mindful;
     there = there;
-    found = subst (λ b. Stands (kinds p) (statuses p) b p here) (is_below p n low) (found_standing kinds statuses n 0 p sent ss (times_datagrams p wide) v few are.standing mindful within there);
-    is = refl;
-    adp = refl;
-    counter = refl;
+    found = subst (λ b. Stands (kinds p) (statuses p) b p (slave_found k p sent ss (times_datagrams p wide) v)) (is_below p n low)
+        (found_standing kinds statuses n k p sent ss (times_datagrams p wide) v few are.standing mindful within there);
+    is = is;
+    adp = adp;
+    counter = fresh;
   }
 
   reply : Found (slice_get (datagrams_behind (length ss) sent ss (times_datagrams p wide)) 0)
   reply = found 0 (length ss) sent ss (times_datagrams p wide) (asked p) refl
 
   brings : BringsBack (asked p) here reply.datagram
-  brings = (read_there kinds statuses n 0 p sent ss (times_datagrams p wide) (asked p) reply.datagram v by_station refl (ports_for_measuring (kinds p) ∙ ap not measuring) reply.is).1
+  brings = (read_there kinds statuses n 0 p sent ss (times_datagrams p wide) (asked p) reply.datagram v (by_station 0 (asked p) refl refl refl) refl (ports_for_measuring (kinds p) ∙ ap not measuring) reply.is).1
 
   data_is : data_at g 0 ≡ reply.datagram.payload
   data_is = ap (λ (d : DatagramValue). d.payload) (get_or_from_slice_get g.datagrams 0 reply.datagram _ (ap (λ (ds : List DatagramValue). slice_get ds 0) back ∙ reply.is))
@@ -96,3 +122,31 @@ module _ (kinds : ℕ → ClockKind) (statuses : ℕ → ℕ) (n sent : ℕ) (ss
   port_is P1 size = word_is 4 (omega arith) size
   port_is P2 size = word_is 8 (omega arith) size
   port_is P3 size = word_is 12 (omega arith) size
+
+  -- and so is that of the processing unit
+  reply_unit : Found (slice_get (datagrams_behind (length ss) sent ss (times_datagrams p wide)) 1)
+  reply_unit = found 1 (length ss) sent ss (times_datagrams p wide) (asked_unit p wide) refl
+
+  unit_found : slave_found 1 p sent ss (times_datagrams p wide) v ≡ at_arrival sent v
+  unfolding never_writes
+  unit_found =
+      let first = found 0 p sent ss (times_datagrams p wide) (asked p) refl in
+      read_first (at_arrival sent v) (datagrams_behind p sent ss (times_datagrams p wide)) first.datagram first.is
+      (ap never_writes (is_sent 0 p sent ss (times_datagrams p wide) (asked p) first.datagram refl first.is).command)
+
+  brings_unit : BringsBack (asked_unit p wide) (slave_found 1 p sent ss (times_datagrams p wide) v) reply_unit.datagram
+  brings_unit =
+      (read_there kinds statuses n 1 p sent ss (times_datagrams p wide) (asked_unit p wide) reply_unit.datagram v (by_station 1 (asked_unit p wide) refl refl refl) refl
+      (unit_for wide (kinds p) ∙ ap not measuring) reply_unit.is).1
+
+  unit_data : data_at g 1 ≡ reply_unit.datagram.payload
+  unit_data = ap (λ (d : DatagramValue). d.payload) (get_or_from_slice_get g.datagrams 1 reply_unit.datagram _ (ap (λ (ds : List DatagramValue). slice_get ds 1) back ∙ reply_unit.is))
+
+  pub unit_is : length v.registers.bytes ≡ 4096 → (latch_in wide g).unit ≡ holds (width wide) 0x0918 v.registers
+  unit_is size =
+      let few = few_bytes wide in
+      let long = unit_long wide in
+      ap (λ bytes. little_number (width wide) bytes) unit_data ∙ number_in (width wide) 0 reply_unit.datagram.payload
+      ∙ brings_unit.numbers 0 (width wide) (omega (arith, long)) (inl (omega arith)) (inr (omega (arith, few)))
+      ∙ ap (λ (x : Slave). holds (width wide) 0x0918 x.registers) unit_found
+      ∙ times_left 0x0918 (width wide) (sent + v.visits.arrive) v (inr (omega arith, omega (arith, few))) size

@@ -13,6 +13,7 @@ pub record TellsTimes (s : SegmentValue) (p sent : ℕ) (latch : Latch) : Type 0
   pub port0 : slice_index latch.ports 0 ≡ shown_at (row_there s p) (sent + arrive (tree_rows s.rows) (row_at s p)) % 2 ^ 32
   pub ports : (q : Port) (at : ℕ) → port_time (tree_rows s.rows) (row_at s p) q ≡ Some at
       → slice_index latch.ports (port_number q) ≡ shown_at (row_there s p) (sent + at) % 2 ^ 32
+  pub unit : latch.unit ≡ shown_at (row_there s p) (sent + arrive (tree_rows s.rows) (row_at s p))
 
 -- of a measuring slave so, and of every other nothing
 pub record AreTold (s : SegmentValue) (sent : ℕ) (latches : List (Option Latch)) : Type 0 where
