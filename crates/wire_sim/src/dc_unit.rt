@@ -1,6 +1,7 @@
 ghost use Rattle.std.specs.Prelude.{◌≡◌, ◌≤◌, ◌<◌, None, Some, IfSome};
 ghost use Rattle.std.specs.Option.{option_map};
 ghost use Rattle.esc_regs.specs.RegisterFile.{Registers};
+ghost use Rattle.latch_unit.specs.Stamp.{expected_after, stamp_by};
 ghost use Rattle.local_clock.specs.Reading.{advanced, ticks_to};
 ghost use Rattle.sync_units.specs.ClockCopy.{copy_of};
 ghost use Rattle.sync_units.specs.KeptEdges.{empty_list};
@@ -25,7 +26,9 @@ pub(crate) struct DcUnit<W: ClockWord> {
     pub(crate) clock: LocalClock<W>,
     pub(crate) sync: SyncUnit<W>,
     pub(crate) edges: EdgeList,
-    pub(crate) input: LatchUnit<W>,
+    input: LatchUnit<W>,
+    // Where it is false, the input expects no event.
+    waits: bool,
     // So many ticks of the clock raise no edge as long as the offset is `offset`.
     spare: u64,
     offset: W,
@@ -38,11 +41,11 @@ impl<W: ClockWord> Model for DcUnit<W> {
 
     ghost view = { λ a. record { clock = a.clock; unit = a.sync; edges = a.edges; event = a.input } };
 
-    ghost use Rattle.std.specs.Prelude.{◌≤◌};
+    ghost use Rattle.std.specs.Prelude.{◌≡◌, ◌≤◌, false, None};
     ghost use Rattle.sync_units.specs.ClockCopy.{copy_of};
     ghost use Rattle.sync_units.specs.Quiet.{spare_of};
 
-    ghost invariant = { λ a. a.spare ≤ spare_of W.WIDTH (copy_of W.WIDTH a.clock (W.number a.offset)) a.sync };
+    ghost invariant = { λ a. (a.spare ≤ spare_of W.WIDTH (copy_of W.WIDTH a.clock (W.number a.offset)) a.sync) × (a.waits ≡ false → a.input ≡ None) };
 }
 
 /// The unit of a slave by the width of its clock.
@@ -63,6 +66,7 @@ impl<W: ClockWord> DcUnit<W> {
             sync: SyncUnit::new(),
             edges,
             input: LatchUnit::new(),
+            waits: false,
             spare: 0,
             offset: W::cut(0),
         }
@@ -87,6 +91,14 @@ impl<W: ClockWord> DcUnit<W> {
         self.spare = 0;
     }
 
+    /// Expects an event of latch input 0 at the true time `t`, in fs.
+    pub(crate) fn expect(&mut self, t: u64)
+        ensures { self.new ≡ record self.old { event = Some t } }
+    {
+        self.input.expect(t);
+        self.waits = true;
+    }
+
     /// Lets time go on to `t`, in fs: edges are raised, the expected event is stamped, and the clock counts.
     /// A `t` before the clock's own time leaves all as it is.
     #[tactic(auto, unfolding(frame_pass::specs::Advancing::measuring_at, frame_pass::specs::Advancing::ticked_to))]
@@ -99,9 +111,8 @@ impl<W: ClockWord> DcUnit<W> {
             return;
         }
         let offset = offset::<W>(registers);
-        let stamp = self.input.sample(&self.clock, offset, t);
+        self.sample(registers, offset, t);
         self.count(offset, t);
-        set_stamp(registers, stamp);
     }
 
     // The same of the clock and its edges alone. Most visits raise no edge, since their ticks are spare.
@@ -140,6 +151,31 @@ impl<W: ClockWord> DcUnit<W> {
         self.clock.advance_by(ticks, t);
         self.spare = self.sync.spare(&self.clock, offset);
         self.offset = offset;
+    }
+
+    // Stamps the event that is expected, where the ticks up to `t` take it.
+    #[inline(always)]
+    fn sample(&mut self, registers: &mut RegFile, offset: W, t: u64)
+        requires width { W.WIDTH ≡ width registers.old.kind }
+        requires later { self.old.clock.instant ≤ t }
+        ensures stamp { registers.new ≡ stamped (stamp_by W.WIDTH self.old.clock (W.number offset) t self.old.event) registers.old }
+        ensures expected { self.new ≡ record self.old { event = expected_after self.old.clock t self.old.event } }
+    {
+        if self.waits {
+            self.sample_input(registers, offset, t);
+        }
+    }
+
+    // The same where an event may be expected.
+    #[inline(never)]
+    fn sample_input(&mut self, registers: &mut RegFile, offset: W, t: u64)
+        requires width { W.WIDTH ≡ width registers.old.kind }
+        requires later { self.old.clock.instant ≤ t }
+        ensures stamp { registers.new ≡ stamped (stamp_by W.WIDTH self.old.clock (W.number offset) t self.old.event) registers.old }
+        ensures expected { self.new ≡ record self.old { event = expected_after self.old.clock t self.old.event } }
+    {
+        let stamp = self.input.sample(&self.clock, offset, t);
+        set_stamp(registers, stamp);
     }
 
     /// The system time: the local copy less the delay, in ns.

@@ -109,8 +109,8 @@ impl Slave {
     {
         match &mut self.unit {
             AnyUnit::Clockless => {}
-            AnyUnit::Narrow(unit) => unit.input.expect(t),
-            AnyUnit::Wide(unit) => unit.input.expect(t),
+            AnyUnit::Narrow(unit) => unit.expect(t),
+            AnyUnit::Wide(unit) => unit.expect(t),
         }
     }
 

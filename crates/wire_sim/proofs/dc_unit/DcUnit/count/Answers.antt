@@ -13,6 +13,6 @@ returns-then-value g c =
     let kept = g.W.ClockWord.number c.self.inside.offset in
     let m : Timing = record { clock = c.self.inside.clock; unit = c.self.inside.sync; edges = c.self.inside.edges; event = c.self.inside.input } in
     let same : kept ≡ offset = let a = c.value.ensures.number in let b = c.value-then-ticks-self.ensures.number in let e = c.if-value.true in cc (a, b, e) in
-    let end = passed w offset kept c.args.t c.ticks_to-ticks.result c.self.inside.spare m same c.ticks_to-ticks.ensures.number c.if-ticks-self.true c.self.invariant in
+    let end = passed w offset kept c.args.t c.ticks_to-ticks.result c.self.inside.spare m same c.ticks_to-ticks.ensures.number c.if-ticks-self.true c.self.invariant.0 in
     c.pass.ensures
     ∙ subst (λ (x : Timing). record x { clock = advanced w c.args.t x.clock } ≡ record (timing_at w offset c.args.t x) { event = x.event }) c.self.view_is end
