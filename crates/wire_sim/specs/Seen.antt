@@ -1,5 +1,5 @@
 -- What a wire keeps, as it is told.
-use Rattle.std.specs.Prelude.{◌≡◌, ℕ, ⊤, Bool, if◌then◌else◌, List, [], length, Option, Some, None}
+use Rattle.std.specs.Prelude.{◌≡◌, ℕ, ⊤, Bool, if◌then◌else◌, List, [], Option, Some, None}
 use Rattle.std.specs.Option.{option_map_or}
 use Rattle.cable_tree.specs.declared.port.Port.{Port}
 use Rattle.cable_tree.specs.declared.port.Port.TheVariants.{P1, P2, P3}
@@ -53,11 +53,6 @@ back P3 v = v.back3
 -- the edges that a slave keeps; a clockless one has none
 abbrev pub edges_kept : Slave → List Edge
 edges_kept s = option_map_or (λ t. t.edges.edges) s.timing []
-
--- how many slaves a frame reaches: all (None), or so many
-abbrev pub reach_of : Option ℕ → List Slave → ℕ
-reach_of None ss = length ss
-reach_of (Some after) ss = after
 
 -- a datagram that leaves a slave with this ADP and counter, and with these data where it was read
 abbrev pub replied : Bool → ℕ → List ℕ → ℕ → DatagramValue → DatagramValue

@@ -14,12 +14,15 @@ use crate::slave::Slave;
 use ecat_frame::{Datagram, Frame, Head};
 use esc_regs::Access;
 
+/// Room for the data of any datagram: their length is a number of 11 bits (ETG.1000.4, section 5.4).
+pub(crate) const DATA_ROOM: usize = 1 << 11;
+
 /// Datagram k of a frame at a slave, and whether it makes the slave's ports latch.
 ///
 /// The room is for the data, and its bytes do not matter.
 pub(crate) fn answer(slave: &mut Slave, frame: &mut Frame, k: usize, room: &mut [u8]) -> bool
     requires within { k < length frame.old.datagrams }
-    requires room { 2048 ≤ length room.old }
+    requires room { DATA_ROOM ≤ length room.old }
     ensures frame { frame.new ≡ changed k (datagram_after slave.old) frame.old }
     ensures slave { IfSome (slice_get frame.old.datagrams k) (λ d. slave.new ≡ slave_after slave.old d) }
     ensures latches { IfSome (slice_get frame.old.datagrams k) (λ d. result ≡ is_latching slave.old d) }

@@ -29,9 +29,9 @@ pub(crate) struct DcUnit<W: ClockWord> {
     input: LatchUnit<W>,
     // Where it is false, the input expects no event.
     waits: bool,
-    // So many ticks of the clock raise no edge as long as the offset is `offset`.
+    // The next so many ticks of the clock raise no edge, as long as the offset, in ns, is `spare_offset`.
     spare: u64,
-    offset: W,
+    spare_offset: W,
 }
 
 impl<W: ClockWord> Model for DcUnit<W> {
@@ -45,7 +45,7 @@ impl<W: ClockWord> Model for DcUnit<W> {
     ghost use Rattle.sync_units.specs.ClockCopy.{copy_of};
     ghost use Rattle.sync_units.specs.Quiet.{spare_of};
 
-    ghost invariant = { λ a. (a.spare ≤ spare_of W.WIDTH (copy_of W.WIDTH a.clock (W.number a.offset)) a.sync) × (a.waits ≡ false → a.input ≡ None) };
+    ghost invariant = { λ a. (a.spare ≤ spare_of W.WIDTH (copy_of W.WIDTH a.clock (W.number a.spare_offset)) a.sync) × (a.waits ≡ false → a.input ≡ None) };
 }
 
 /// The unit of a slave by the width of its clock.
@@ -68,7 +68,7 @@ impl<W: ClockWord> DcUnit<W> {
             input: LatchUnit::new(),
             waits: false,
             spare: 0,
-            offset: W::cut(0),
+            spare_offset: W::cut(0),
         }
     }
 
@@ -115,20 +115,21 @@ impl<W: ClockWord> DcUnit<W> {
         self.count(offset, t);
     }
 
-    // The same of the clock and its edges alone. Most visits raise no edge, since their ticks are spare.
+    // The same of the clock and its edges alone. Most visits raise no edge: their ticks are within those that are
+    // known to raise none.
     fn count(&mut self, offset: W, t: u64)
         requires { self.old.clock.instant ≤ t }
         ensures { self.new ≡ record (timing_at W.WIDTH (W.number offset) t self.old) { event = self.old.event } }
     {
         let ticks = self.clock.ticks_to(t);
-        if ticks <= self.spare && offset.value() == self.offset.value() {
+        if ticks <= self.spare && offset.value() == self.spare_offset.value() {
             self.pass(ticks, t);
         } else {
             self.raise(offset, ticks, t);
         }
     }
 
-    // Counts so many ticks, which are spare.
+    // The clock counts so many ticks, with no look for edges; so many fewer are then known to raise none.
     fn pass(&mut self, ticks: u64, t: u64)
         requires later { self.old.clock.instant ≤ t }
         requires number { ticks ≡ ticks_to self.old.clock t }
@@ -138,7 +139,7 @@ impl<W: ClockWord> DcUnit<W> {
         self.spare = self.spare.saturating_sub(ticks);
     }
 
-    // Raises the edges of so many ticks, counts these, and looks how many are spare from there on.
+    // Raises the edges of so many ticks, counts these, and finds how many after them surely raise none.
     #[cold]
     #[inline(never)]
     fn raise(&mut self, offset: W, ticks: u64, t: u64)
@@ -150,7 +151,7 @@ impl<W: ClockWord> DcUnit<W> {
             .edges_until(&self.clock, offset, t, &mut self.edges);
         self.clock.advance_by(ticks, t);
         self.spare = self.sync.spare(&self.clock, offset);
-        self.offset = offset;
+        self.spare_offset = offset;
     }
 
     // Stamps the event that is expected, where the ticks up to `t` take it.

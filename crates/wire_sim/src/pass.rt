@@ -4,9 +4,10 @@ ghost use Rattle.std.specs.Prelude.{◌≡◌, ◌+◌, ◌^◌, ◌≤◌, ◌<
 ghost use Rattle.frame_pass.specs.FramePass.{slave_behind, datagrams_after, are_latching, slave_passed, datagrams_passed, port_taken, ports_taken, comes_by, slaves_passed, datagrams_behind, end_of};
 ghost use Rattle.frame_pass.specs.Advancing.{advanced_to};
 ghost use Rattle.frame_pass.specs.SegmentState.{changed_at, expecting};
-ghost use Rattle.wire_sim.specs.Seen.{address_of, reach_of};
+ghost use Rattle.frame_pass.specs.Reach.{reached_by};
+ghost use Rattle.wire_sim.specs.Seen.{address_of};
 
-use crate::datagram::answer;
+use crate::datagram::{DATA_ROOM, answer};
 use crate::slave::Slave;
 use cable_tree::Port;
 use ecat_frame::Frame;
@@ -14,9 +15,9 @@ use ecat_frame::Frame;
 /// A frame that was sent then reaches all slaves (`None`), or the first `after` of them.
 pub(crate) fn carry_all(slaves: &mut Vec<Slave>, after: Option<u16>, frame: &mut Frame, sent: u64)
     requires { sent + 10000000000000 < 2 ^ 64 }
-    ensures slaves { let reach = reach_of after slaves.old.items in
+    ensures slaves { let reach = reached_by after slaves.old.items in
         slaves.new.items ≡ slaves_passed reach sent (end_of reach slaves.old.items) slaves.old.items frame.old.datagrams }
-    ensures frame { let reach = reach_of after slaves.old.items in
+    ensures frame { let reach = reached_by after slaves.old.items in
         frame.new ≡ record frame.old { datagrams = datagrams_behind reach sent slaves.old.items frame.old.datagrams } }
 {
     carry(slaves, after, frame, sent);
@@ -24,20 +25,20 @@ pub(crate) fn carry_all(slaves: &mut Vec<Slave>, after: Option<u16>, frame: &mut
 
 fn carry(slaves: &mut [Slave], after: Option<u16>, frame: &mut Frame, sent: u64)
     requires { sent + 10000000000000 < 2 ^ 64 }
-    ensures slaves { let reach = reach_of after slaves.old in
+    ensures slaves { let reach = reached_by after slaves.old in
         slaves.new ≡ slaves_passed reach sent (end_of reach slaves.old) slaves.old frame.old.datagrams }
-    ensures frame { let reach = reach_of after slaves.old in
+    ensures frame { let reach = reached_by after slaves.old in
         frame.new ≡ record frame.old { datagrams = datagrams_behind reach sent slaves.old frame.old.datagrams } }
 {
-    let reach = reach_of(after, slaves);
+    let reach = reached_by(after, slaves);
     let end = arrival_at(slaves, reach);
-    let mut room = [0; 2048];
+    let mut room = [0; DATA_ROOM];
     pass(slaves, reach, frame, sent, end, &mut room);
 }
 
 // How many slaves a frame reaches.
-fn reach_of(after: Option<u16>, slaves: &[Slave]) -> usize
-    ensures { result ≡ reach_of after slaves.now }
+fn reached_by(after: Option<u16>, slaves: &[Slave]) -> usize
+    ensures { result ≡ reached_by after slaves.now }
 {
     match after {
         None => slaves.len(),
@@ -56,7 +57,7 @@ fn pass(
     room: &mut [u8],
 )
     requires time { sent + 10000000000000 < 2 ^ 64 }
-    requires room { 2048 ≤ length room.old }
+    requires room { DATA_ROOM ≤ length room.old }
     ensures slaves { slaves.new ≡ slaves_passed reach sent end slaves.old frame.old.datagrams }
     ensures frame { frame.new ≡ record frame.old { datagrams = datagrams_behind reach sent slaves.old frame.old.datagrams } }
 {
@@ -101,7 +102,7 @@ pub(crate) fn expect_at(slaves: &mut [Slave], position: u16, t: u64)
 #[tactic(auto, unfolding(frame_pass::specs::FramePass::slave_passed, frame_pass::specs::FramePass::datagrams_passed))]
 fn pass_one(slave: &mut Slave, frame: &mut Frame, sent: u64, end: Option<u64>, room: &mut [u8])
     requires time { sent + 10000000000000 < 2 ^ 64 }
-    requires room { 2048 ≤ length room.old }
+    requires room { DATA_ROOM ≤ length room.old }
     ensures slave { slave.new ≡ slave_passed sent end slave.old frame.old.datagrams }
     ensures frame { frame.new ≡ record frame.old { datagrams = datagrams_passed sent slave.old frame.old.datagrams } }
     ensures room { length room.new ≡ length room.old }
@@ -114,7 +115,7 @@ fn pass_one(slave: &mut Slave, frame: &mut Frame, sent: u64, end: Option<u64>, r
 
 // The datagrams of the frame in their order, and whether the slave's ports latch.
 fn answer_all(slave: &mut Slave, frame: &mut Frame, room: &mut [u8]) -> bool
-    requires { 2048 ≤ length room.old }
+    requires { DATA_ROOM ≤ length room.old }
     ensures slave { slave.new ≡ slave_behind slave.old frame.old.datagrams }
     ensures frame { frame.new ≡ record frame.old { datagrams = datagrams_after slave.old frame.old.datagrams } }
     ensures latches { result ≡ are_latching slave.old frame.old.datagrams }
