@@ -1,11 +1,11 @@
 -- Losses, and their table.
-use Rattle.std.proofs.Common.{◌≡◌, ◌⊎◌, inl, inr, ◌∙◌, sym, ap, subst, ℕ, zero, suc, ◌<◌, Bool, true, false, ◌||◌, ◌&&◌, List, [], ◌∷◌, ◌++◌, length, get_or, set, replicate, Option, Some, None, refl, arith}
+use Rattle.std.proofs.Common.{◌≡◌, ◌⊎◌, inl, inr, ◌∙◌, sym, ap, subst, ℕ, zero, suc, ◌<◌, Bool, true, false, ◌||◌, ◌&&◌, List, [], ◌∷◌, ◌++◌, ◌*◌, ◌+◌, length, get_or, set, Option, Some, None, refl, arith}
 use Rattle.std.specs.Prelude.{nat_eq, ◌==◌, is_some, option_map, if◌then◌else◌}
 use Rattle.std.specs.List.{All, find, list_any}
 use Rattle.std.specs.Option.{option_or}
 use Rattle.std.proofs.lemmas.Bool.Decides.{nat_tests}
 use Rattle.std.proofs.lemmas.Grind.{get_or-set_at}
-use Rattle.std.proofs.lemmas.List.{length-replicate, length-set, get_or-set_other}
+use Rattle.std.proofs.lemmas.List.{get_or-set_other}
 use Rattle.std.proofs.lemmas.List.Elements.{All-head, All-tail}
 use Rattle.std.proofs.lemmas.List.Folds.{find-append}
 use Rattle.segment_shape.specs.Losses.{is_same_phase, is_loss_of, is_listed, loss_at}
@@ -23,22 +23,6 @@ pub unlisted_at : {X : Type 0} (p : X → Bool) (xs : List X) (k : ℕ) (d : X) 
 unlisted_at p [] k d none low = absurd (omega (arith, low))
 unlisted_at p (x ∷ xs) zero d none low = (neither (p x) (list_any p xs) none).0
 unlisted_at p (x ∷ xs) (suc k) d none low = unlisted_at p xs k d (neither (p x) (list_any p xs) none).1 (omega (arith, low))
-
--- what is like None alone is None
-pub none_only : (P : Option ℕ → Type 0) → ((n : ℕ) → P (Some n) → ⊥) → (o : Option ℕ) → P o → o ≡ None
-none_only P never None is = refl
-none_only P never (Some n) is = absurd (never n is)
-
-get_or-clear : (n i : ℕ) → ◌≡◌ {A = Option ℕ} (get_or (replicate n None) i None) None
-get_or-clear zero i = refl
-get_or-clear (suc n) zero = refl
-get_or-clear (suc n) (suc i) = get_or-clear n i
-
-pub clear_table : (n : ℕ) (rows : List LossRow) (table : List (Option ℕ)) → n ≡ 200001 → rows ≡ [] → table ≡ replicate n None → IsTable rows table
-clear_table n rows table e none clear = record {
-  enough = ap length clear ∙ length-replicate n None ∙ e;
-  each = λ phase number _. ap (λ t. get_or t (table_place phase number) None) clear ∙ get_or-clear n (table_place phase number) ∙ sym (ap (λ rs. loss_at rs phase number) none);
-}
 
 -- a frame is listed exactly where the slaves that it reaches are found
 pub listed_by_loss : (rows : List LossRow) (phase : Phase) (number : ℕ) → is_some (loss_at rows phase number) ≡ is_listed phase number rows
@@ -84,44 +68,41 @@ or_none : (o : Option ℕ) → o ≡ option_or o None
 or_none None = refl
 or_none (Some n) = refl
 
+-- no odd number is even
+odd_even : (m n : ℕ) → 2 * n + 1 ≡ 2 * m → ⊥
+odd_even zero n e = omega (arith, e)
+odd_even (suc m) zero e = omega (arith, e)
+odd_even (suc m) (suc n) e = odd_even m n (omega (arith, e))
+
 -- two places are one, or the loss is another
-places : (p q : Phase) (m n : ℕ) → IsNumber m → IsNumber n
+places : (p q : Phase) (m n : ℕ)
     → ((table_place p m ≡ table_place q n) × ((is_same_phase p q && m == n) ≡ true)) ⊎ ((table_place q n ≡ table_place p m → ⊥) × ((is_same_phase p q && m == n) ≡ false))
-places Commission Drift m n is is' = inr (λ e. omega (arith, e, is, is'), refl)
-places Drift Commission m n is is' = inr (λ e. omega (arith, e, is, is'), refl)
-places Commission Commission m n is is' = by_test (nat_eq m n) refl
+places Commission Drift m n = inr (λ e. odd_even m n e, refl)
+places Drift Commission m n = inr (λ e. odd_even n m (sym e), refl)
+places Commission Commission m n = by_test (nat_eq m n) refl
   where
-    by_test : (b : Bool) → nat_eq m n ≡ b → ((m ≡ n) × (nat_eq m n ≡ true)) ⊎ ((n ≡ m → ⊥) × (nat_eq m n ≡ false))
-    by_test true e = let same : m ≡ n = grind (arith, nat_tests, e) in inl (same, e)
-    by_test false e = inr (λ same. grind (arith, nat_tests, e, same), e)
-places Drift Drift m n is is' = by_test (nat_eq m n) refl
+    by_test : (b : Bool) → nat_eq m n ≡ b → ((table_place Commission m ≡ table_place Commission n) × (nat_eq m n ≡ true)) ⊎ ((table_place Commission n ≡ table_place Commission m → ⊥) × (nat_eq m n ≡ false))
+    by_test true e = let same : m ≡ n = grind (arith, nat_tests, e) in inl (ap (λ k. table_place Commission k) same, e)
+    by_test false e = inr (λ same. let one : m ≡ n = omega (arith, same) in grind (arith, nat_tests, e, one), e)
+places Drift Drift m n = by_test (nat_eq m n) refl
   where
     by_test : (b : Bool) → nat_eq m n ≡ b → ((table_place Drift m ≡ table_place Drift n) × (nat_eq m n ≡ true)) ⊎ ((table_place Drift n ≡ table_place Drift m → ⊥) × (nat_eq m n ≡ false))
     by_test true e = let same : m ≡ n = grind (arith, nat_tests, e) in inl (ap (λ k. table_place Drift k) same, e)
-    by_test false e = inr (λ same. grind (arith, nat_tests, e, same), e)
-
-place_within : (phase : Phase) (number : ℕ) → IsNumber number → table_place phase number < 200001
-place_within Commission number is = omega (arith, is)
-place_within Drift number is = omega (arith, is)
+    by_test false e = inr (λ same. let one : m ≡ n = omega (arith, same) in grind (arith, nat_tests, e, one), e)
 
 -- the table with one loss more
-pub pushed_table : (rows : List LossRow) (r : LossRow) (table : List (Option ℕ)) (place : ℕ) (new : Option ℕ) → IsNumber r.number → IsTable rows table → place ≡ table_place r.phase r.number
+pub pushed_table : (rows : List LossRow) (r : LossRow) (table : List (Option ℕ)) (place : ℕ) (new : Option ℕ) → IsTable rows table → place ≡ table_place r.phase r.number → place < length table
     → new ≡ option_or (loss_at rows r.phase r.number) (Some r.after) → IsTable (rows ++ r ∷ []) (set table place new)
-pushed_table rows r table place new is kept at e = record {
-  enough = length-set table place new ∙ kept.enough;
-  each = λ phase number number_is. here phase number number_is (places r.phase phase r.number number is number_is);
-}
+pushed_table rows r table place new kept at low e phase number = here (places r.phase phase r.number number)
   where
-    here : (phase : Phase) (number : ℕ) → IsNumber number
-        → ((table_place r.phase r.number ≡ table_place phase number) × (is_loss_of phase number r ≡ true)) ⊎ ((table_place phase number ≡ table_place r.phase r.number → ⊥) × (is_loss_of phase number r ≡ false))
+    here : ((table_place r.phase r.number ≡ table_place phase number) × (is_loss_of phase number r ≡ true)) ⊎ ((table_place phase number ≡ table_place r.phase r.number → ⊥) × (is_loss_of phase number r ≡ false))
         → get_or (set table place new) (table_place phase number) None ≡ loss_at (rows ++ r ∷ []) phase number
-    here phase number number_is (inl one) =
-        let low : place < length table = omega (arith, at, place_within r.phase r.number is, kept.enough) in
+    here (inl one) =
         let whole : table_place phase number ≡ place = sym one.0 ∙ sym at in
         get_or-set_at table place (table_place phase number) new None whole low ∙ e
-        ∙ ap (λ o. option_or o (Some r.after)) (sym (kept.each r.phase r.number is) ∙ ap (λ k. get_or table k None) one.0 ∙ kept.each phase number number_is)
+        ∙ ap (λ o. option_or o (Some r.after)) (sym (kept r.phase r.number) ∙ ap (λ k. get_or table k None) one.0 ∙ kept phase number)
         ∙ sym (loss_at_push rows r phase number ∙ ap (λ b. option_or (loss_at rows phase number) (if b then Some r.after else None)) one.1)
-    here phase number number_is (inr other) =
-        get_or-set_other table place (table_place phase number) new None (λ same. other.0 (same ∙ at)) ∙ kept.each phase number number_is
+    here (inr other) =
+        get_or-set_other table place (table_place phase number) new None (λ same. other.0 (same ∙ at)) ∙ kept phase number
         ∙ or_none (loss_at rows phase number)
         ∙ sym (loss_at_push rows r phase number ∙ ap (λ b. option_or (loss_at rows phase number) (if b then Some r.after else None)) other.1)

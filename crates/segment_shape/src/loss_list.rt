@@ -1,4 +1,4 @@
-ghost use Rattle.std.specs.Prelude.{◌≡◌, ◌≤◌, ◌++◌, ◌∷◌, [], IfOk, OnErr, OnOk, length};
+ghost use Rattle.std.specs.Prelude.{ℕ, ◌≡◌, ◌≤◌, ◌<◌, ◌^◌, ◌++◌, ◌∷◌, [], None, IfOk, OnErr, OnOk, length, slice_index_or};
 ghost use Rattle.segment_shape.specs.Losses.{is_listed, loss_at};
 ghost use Rattle.segment_shape.specs.LossTable.{table_place};
 
@@ -6,10 +6,8 @@ use crate::loss_row::{LossRow, Phase};
 use std::alloc::{AllocError, Global};
 use std::marker::Model;
 
-/// The greatest number of a frame that can be listed as lost.
-const LAST_NUMBER: u32 = 100_000;
-
-/// The frames that are listed as lost, in the order of the file, and by kind and number.
+/// The frames that are listed as lost, in the order of the file, and by kind and number: the table goes
+/// up to the greatest number that is listed.
 #[derive(Debug, Drop)]
 pub struct LossList {
     rows: Vec<LossRow>,
@@ -31,13 +29,25 @@ impl Model for LossList {
 
 // Where a number of a phase stands.
 fn table_place(phase: Phase, number: u32) -> usize
-    requires { number ≤ 100000 }
-    ensures { result ≡ table_place phase number }
+    ensures is { result ≡ table_place phase number }
+    ensures low { result < 2 ^ 34 }
 {
     match phase {
-        Phase::Commission => number as usize,
-        Phase::Drift => (LAST_NUMBER + number) as usize,
+        Phase::Commission => 2 * number as usize,
+        Phase::Drift => 2 * number as usize + 1,
     }
+}
+
+// Lengthens a table by clear places, up to this one.
+fn reach(table: &mut Vec<Option<u16>>, place: usize) -> Result<(), AllocError>
+    requires { place < 2 ^ 34 }
+    ensures same { (k : ℕ) → slice_index_or table.new.items k None ≡ slice_index_or table.old.items k None }
+    ensures long { OnOk result (place < length table.new.items) }
+{
+    if table.len() <= place {
+        table.resize(place + 1, None)?;
+    }
+    Ok(())
 }
 
 impl LossList {
@@ -45,11 +55,9 @@ impl LossList {
     pub fn new(alloc: Global) -> Result<LossList, AllocError>
         ensures { IfOk result (λ l. l ≡ []) }
     {
-        let table = vec![in alloc; None; 200_001]?;
-        Ok(LossList {
-            rows: Vec::new(alloc),
-            table,
-        })
+        let rows = Vec::new(alloc);
+        let table = Vec::new(alloc);
+        Ok(LossList { rows, table })
     }
 
     /// Puts a loss at the end. Want of memory alone refuses it.
@@ -59,8 +67,9 @@ impl LossList {
         ensures err { OnErr result (self.new ≡ self.old) }
     {
         let known = self.after(row.phase, row.number);
-        self.rows.push(row)?;
         let place = table_place(row.phase, row.number);
+        reach(&mut self.table, place)?;
+        self.rows.push(row)?;
         self.table[place] = known.or(Some(row.after));
         Ok(())
     }
@@ -89,8 +98,9 @@ impl LossList {
     pub fn after(&self, phase: Phase, number: u32) -> Option<u16>
         ensures { result ≡ loss_at self.now phase number }
     {
-        if 1 <= number && number <= LAST_NUMBER {
-            self.table[table_place(phase, number)]
+        let place = table_place(phase, number);
+        if place < self.table.len() {
+            self.table[place]
         } else {
             None
         }

@@ -21,9 +21,10 @@ pub(crate) fn push_number(text: &mut Vec<u8>, number: u64) -> Result<(), AllocEr
 fn push_between_quotes(text: &mut Vec<u8>, string: &str) -> Result<(), AllocError>
     ensures { OnOk result (text.new.items ≡ text.old.items ++ 34 ∷ (string.now ++ 34 ∷ [])) }
 {
-    text.extend_from_slice(b"\"")?;
+    text.push(b'"')?;
     text.extend_from_slice(string.as_bytes())?;
-    text.extend_from_slice(b"\"")
+    text.push(b'"')?;
+    Ok(())
 }
 
 /// A string that needs no escapes.
@@ -39,7 +40,7 @@ pub(crate) fn push_comma_if(text: &mut Vec<u8>, later: bool) -> Result<(), Alloc
     ensures { OnOk result (text.new.items ≡ text.old.items ++ comma_if later) }
 {
     if later {
-        text.extend_from_slice(b",")?;
+        text.push(b',')?;
     }
     Ok(())
 }
@@ -50,9 +51,9 @@ pub(crate) fn open_at(text: &mut Vec<u8>, key: &str, number: u64) -> Result<(), 
     requires { is_plain key.now ≡ true }
     ensures { OnOk result (text.new.items ≡ text.old.items ++ opened key.now (whole number)) }
 {
-    text.extend_from_slice(b"{")?;
+    text.push(b'{')?;
     push_quoted(text, key)?;
-    text.extend_from_slice(b":")?;
+    text.push(b':')?;
     push_number(text, number)
 }
 
@@ -61,9 +62,10 @@ pub(crate) fn push_key(text: &mut Vec<u8>, key: &str) -> Result<(), AllocError>
     requires { is_plain key.now ≡ true }
     ensures { OnOk result (text.new.items ≡ text.old.items ++ 44 ∷ (quoted key.now ++ 58 ∷ [])) }
 {
-    text.extend_from_slice(b",")?;
+    text.push(b',')?;
     push_quoted(text, key)?;
-    text.extend_from_slice(b":")
+    text.push(b':')?;
+    Ok(())
 }
 
 #[tactic(auto, unfolding(crate::specs::Text::entry_text))]

@@ -32,7 +32,7 @@ fn push_loss(text: &mut Vec<u8>, loss: LossRow) -> Result<(), AllocError>
 fn push_rows(text: &mut Vec<u8>, losses: &[LossRow]) -> Result<(), AllocError>
     ensures { OnOk result (text.new.items ≡ text.old.items ++ compact_text (array (items_for loss_data losses.now))) }
 {
-    text.extend_from_slice(b"[")?;
+    text.push(b'[')?;
     let mut later = false;
     for loss in losses {
         push_comma_if(text, later)?;

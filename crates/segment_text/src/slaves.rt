@@ -103,7 +103,7 @@ fn push_rate(text: &mut Vec<u8>, rate: RateRow) -> Result<(), AllocError>
 fn push_rate_rows(text: &mut Vec<u8>, rates: &[RateRow]) -> Result<(), AllocError>
     ensures { OnOk result (text.new.items ≡ text.old.items ++ compact_text (array (items_for rate_data rates.now))) }
 {
-    text.extend_from_slice(b"[")?;
+    text.push(b'[')?;
     let mut later = false;
     for rate in rates {
         push_comma_if(text, later)?;

@@ -18,7 +18,7 @@ fn push_rows(text: &mut Vec<u8>, segment: &Segment) -> Result<(), AllocError>
     ensures { OnOk result (text.new.items ≡ text.old.items
         ++ compact_text (array (items_for (slave_data segment.now.head.version) (written segment.now).slaves))) }
 {
-    text.extend_from_slice(b"[")?;
+    text.push(b'[')?;
     let version = segment.version();
     let rows = segment.rows();
     let mut later = false;
