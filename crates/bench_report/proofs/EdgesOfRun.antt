@@ -10,7 +10,7 @@ use Rattle.edge_report.specs.Edges.{AreCounted, AreEdges, IsEdge, edges_of, is_o
 use Rattle.edge_report.specs.declared.slave_edge.SlaveEdge.{SlaveEdge}
 use Rattle.edge_report.proofs.Sorting.{keeps_none}
 use Rattle.frame_pass.specs.SegmentState.{SegmentState}
-use Rattle.segment_bench.specs.BenchRun.{IsWireOf}
+use Rattle.segment_bench.proofs.Wires.{IsWireOf}
 use Rattle.segment_file.specs.Segment.{SegmentValue}
 use Rattle.sync_units.specs.declared.edge.Edge.{Edge}
 use Rattle.sync_units.specs.declared.edge.Signal.{Signal}

@@ -1,5 +1,5 @@
 -- The delays that the master of a bench has measured.
-use Rattle.std.proofs.Common.{◌≡◌, ◌∙◌, map, Some, None, is_some, ap}
+use Rattle.std.proofs.Common.{◌∙◌, map, None, is_some, ap}
 use Rattle.std.specs.Prelude.{Ok}
 use Rattle.dc_bench.specs.BenchState.{BenchState}
 use Rattle.edge_report.specs.Delays.{AreDelays}

@@ -77,7 +77,7 @@ pub fn run_report(
     };
     let text = summary(alloc, segment, bench, &edges, true)?;
     if with_rows {
-        edges_csv_behind(alloc, text, segment, &edges)
+        edges_csv_behind(text, segment, edges)
     } else {
         Ok(text)
     }

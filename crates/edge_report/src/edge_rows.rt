@@ -15,6 +15,9 @@ use std::alloc::Global;
 use std::io::Write;
 use sync_units::Signal;
 
+/// The room for a row (bytes): most rows are shorter, and a longer one only makes the text grow.
+const ROW_ROOM: usize = 48;
+
 fn signal_text(signal: Signal) -> &'static str
     ensures { result.now ≡ signal_text signal }
 {
@@ -41,18 +44,12 @@ fn order_key(edge: &SlaveEdge) -> (u32, u16, u8)
 }
 
 // The edges by index, then by position, SYNC0 before SYNC1.
-fn in_order(
-    alloc: Global,
-    segment: &Segment,
-    edges: &[SlaveEdge],
-) -> Result<Vec<SlaveEdge>, NoMemory>
-    requires { AreEdges segment.now edges.now }
-    ensures is { IfOk result (λ v. v.items ≡ edges_in_order segment.now edges.now) }
+fn in_order(segment: &Segment, edges: Vec<SlaveEdge>) -> Result<Vec<SlaveEdge>, NoMemory>
+    requires { AreEdges segment.now edges.items }
+    ensures is { IfOk result (λ v. v.items ≡ edges_in_order segment.now edges.items) }
     ensures each { IfOk result (λ v. All (IsEdge segment.now) v.items) }
 {
-    let Ok(mut ordered) = Vec::from_slice(alloc, edges) else {
-        return Err(NoMemory);
-    };
+    let mut ordered = edges;
     match ordered.sort_by_key(|edge| order_key(edge)) {
         Ok(()) => Ok(ordered),
         Err(_) => Err(NoMemory),
@@ -135,6 +132,17 @@ fn put_edge<W: Write + Drop>(
     )
 }
 
+// A text with room behind it for so many rows.
+fn with_room(text: Vec<u8>, rows: usize) -> Result<Vec<u8>, NoMemory>
+    ensures { IfOk result (λ v. v.items ≡ text.items) }
+{
+    let mut text = text;
+    match text.reserve_exact(rows.saturating_mul(ROW_ROOM)) {
+        Ok(()) => Ok(text),
+        Err(_) => Err(NoMemory),
+    }
+}
+
 // A text and behind it the rows of these edges, in this order.
 fn rows_behind(text: Vec<u8>, segment: &Segment, edges: &[SlaveEdge]) -> Result<Vec<u8>, NoMemory>
     requires { All (IsEdge segment.now) edges.now }
@@ -158,20 +166,23 @@ pub fn edges_csv(alloc: Global, segment: &Segment, edges: &[SlaveEdge]) -> Resul
     requires { AreEdges segment.now edges.now }
     ensures { IfOk result (λ text. text.items ≡ edge_rows segment.now edges.now) }
 {
-    edges_csv_behind(alloc, Vec::new(alloc), segment, edges)
+    let Ok(list) = Vec::from_slice(alloc, edges) else {
+        return Err(NoMemory);
+    };
+    edges_csv_behind(Vec::new(alloc), segment, list)
 }
 
-/// A text, and behind it the rows of [`edges_csv`]. They are written there at once, so that memory holds them
-/// only once.
+/// A text, and behind it the rows of [`edges_csv`]. The list is sorted where it stands, and the rows are written
+/// behind the text at once, so that memory holds edges and rows only once.
 pub fn edges_csv_behind(
-    alloc: Global,
     text: Vec<u8>,
     segment: &Segment,
-    edges: &[SlaveEdge],
+    edges: Vec<SlaveEdge>,
 ) -> Result<Vec<u8>, NoMemory>
-    requires { AreEdges segment.now edges.now }
-    ensures { IfOk result (λ all. all.items ≡ text.items ++ edge_rows segment.now edges.now) }
+    requires { AreEdges segment.now edges.items }
+    ensures { IfOk result (λ all. all.items ≡ text.items ++ edge_rows segment.now edges.items) }
 {
-    let ordered = in_order(alloc, segment, edges)?;
+    let ordered = in_order(segment, edges)?;
+    let text = with_room(text, ordered.len())?;
     rows_behind(text, segment, &ordered)
 }

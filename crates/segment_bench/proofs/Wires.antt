@@ -13,7 +13,12 @@ use Rattle.run_of_file.proofs.FromStart.{kept_by_runs, ran_from}
 use Rattle.segment_file.specs.Legal.{IsLegal}
 use Rattle.segment_file.specs.Segment.{SegmentValue}
 use Rattle.segment_start.specs.Start.{started_segment}
-use Rattle.segment_bench.specs.BenchRun.{HasRun, IsWireOf}
+use Rattle.segment_bench.specs.BenchRun.{HasRun}
+
+-- the slaves of the wire are those of the file, and the edges that each has kept are numbered
+pub record IsWireOf (s : SegmentValue) (w : SegmentState) : Type 0 where
+  pub slaves : map fixed_part w.slaves ≡ map fixed_part (started_segment s).slaves
+  pub numbered : AreNumberedSlaves w.slaves
 
 pub ran_keeps : (s : SegmentValue) → IsLegal s → (run : RunEnd) → ran s ≡ Some run → IsWireOf s run.state
 ran_keeps s legal run is = record {

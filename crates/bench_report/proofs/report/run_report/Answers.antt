@@ -1,6 +1,4 @@
-use Rattle.std.proofs.Common.{◌∙◌, ◌++◌, ap}
 use Rattle.std.proofs.lemmas.Result.{IfOk-weaker}
-use Rattle.edge_report.specs.EdgeRows.{edge_rows}
 use Rattle.bench_report.proofs.Measured.{run_delays}
 use Rattle.bench_report.proofs.Pieces.{with_rows, without_rows}
 use Rattle.bench_report.proofs.report.run_report.Goals as goal
@@ -12,9 +10,9 @@ pub returns-then-with_rows : goal.returns-then-with_rows
 returns-then-with_rows c =
     IfOk-weaker c.edges_csv_behind.result _ _
     (λ all is. with_rows c.args.segment.now c.args.bench.now c.args.with_rows c.in-Ok.edges.items c.in_ok-text.text.items all.items c.if-with_rows.true c.in-Ok.ensures.told
-    c.in_ok-text.ensures (is ∙ ap (λ es. c.in_ok-text.text.items ++ edge_rows c.args.segment.now es) c.deref-then-with_rows.ensures.value))
+    c.in_ok-text.ensures is)
     c.edges_csv_behind.ensures
 
-pub returns : goal.returns
-returns c =
+pub returns-else-with_rows : goal.returns-else-with_rows
+returns-else-with_rows c =
     without_rows c.args.segment.now c.args.bench.now c.args.with_rows c.in_ok-text.text.items c.if-with_rows.false c.in_ok-text.ensures
