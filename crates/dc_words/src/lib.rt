@@ -10,8 +10,6 @@ mod command_line;
 pub mod laws;
 mod numeral;
 mod read;
-#[cfg(test)]
-mod tests;
 
 pub use command::Command;
 pub use read::read_words;
