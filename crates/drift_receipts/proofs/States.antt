@@ -37,8 +37,8 @@ use Rattle.run_of_file.specs.RunOfFile.{frames_given}
 use Rattle.run_of_file.proofs.Ending.{commissioned_on}
 use Rattle.run_of_file.proofs.FromStart.{commissioned_from}
 use Rattle.run_of_file.proofs.InRange.{as_many_kinds, few_rows}
-use Rattle.run_schedule.specs.OnTheWay.{StandsAfter}
-use Rattle.run_schedule.proofs.Numbers.{master_frame_ns, runs_split, some_kinds, stands_after}
+use Rattle.run_numbers.specs.OnTheWay.{StandsAfter}
+use Rattle.run_numbers.proofs.Numbers.{master_frame_ns, runs_split, some_kinds, stands_after}
 use Rattle.segment_file.specs.Legal.{IsLegal}
 use Rattle.segment_file.specs.Segment.{SegmentValue, tree_rows}
 use Rattle.segment_file.proofs.LegalLemmas.{legal_reference}

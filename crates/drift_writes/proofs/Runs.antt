@@ -22,7 +22,7 @@ use Rattle.run_counts.proofs.Following.{Drifted, armed_drifted, ran_drifted, set
 use Rattle.run_of_file.specs.MasterOfFile.{master_of}
 use Rattle.run_of_file.specs.RunOfFile.{RunEnd, armed, commissioned, frames_given, ran, settled}
 use Rattle.run_of_file.proofs.Ending.{commissioned_on}
-use Rattle.run_schedule.proofs.Numbers.{some_kinds}
+use Rattle.run_numbers.proofs.Numbers.{some_kinds}
 use Rattle.segment_file.specs.Legal.{IsLegal}
 use Rattle.segment_file.specs.Segment.{SegmentValue}
 use Rattle.segment_shape.specs.declared.loss_row.Phase.TheVariants as phase

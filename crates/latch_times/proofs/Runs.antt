@@ -46,7 +46,7 @@ use Rattle.honest_runs.proofs.Turns.{honest_turn}
 use Rattle.run_of_file.specs.MasterOfFile.{master_of}
 use Rattle.run_of_file.specs.RunOfFile.{frames_given}
 use Rattle.run_of_file.proofs.InRange.{as_many_kinds, some_rows}
-use Rattle.run_schedule.proofs.Numbers.{InStep, in_phase, master_frame_ns, some_kinds, starts_in_step, step_in_step}
+use Rattle.run_numbers.proofs.Numbers.{InStep, in_phase, master_frame_ns, some_kinds, starts_in_step, step_in_step}
 use Rattle.latch_times.specs.Resting.{AllRest, row_there, shown_at}
 use Rattle.latch_times.specs.HeldTimes.{AllHold, HoldsTimes}
 use Rattle.latch_times.specs.ToldTimes.{TellsTimes}

@@ -12,8 +12,8 @@ use Rattle.run_counts.proofs.Numbering.{Went, call_went, numbered_then}
 use Rattle.run_of_file.specs.MasterOfFile.{master_of}
 use Rattle.run_of_file.specs.RunOfFile.{RunEnd, armed, commissioned, frames_given, ran, settled}
 use Rattle.run_schedule.proofs.Commissioned.{has_commissioned}
-use Rattle.run_schedule.proofs.Following.{Followed, HasGone, IsLed, followed, led_on, off, on}
-use Rattle.run_schedule.proofs.Numbers.{frames_of, in_step, starts_in_step}
+use Rattle.run_numbers.proofs.Following.{Followed, HasGone, IsLed, followed, led_on, off, on}
+use Rattle.run_numbers.proofs.Numbers.{frames_of, in_step, starts_in_step}
 use Rattle.segment_file.specs.Legal.{IsLegal}
 use Rattle.segment_file.specs.Segment.{SegmentValue}
 use Rattle.segment_shape.specs.declared.loss_row.Phase.{Phase}
