@@ -37,7 +37,7 @@ use Rattle.named_slaves.proofs.Frames.{had_before, same_many}
 use Rattle.honest_replies.specs.Told.{IsMeant}
 use Rattle.honest_replies.proofs.Mindful.{mindful_step}
 use Rattle.honest_runs.specs.FileSlaves.{kind_at, status_at}
-use Rattle.honest_runs.specs.Progressing.{IsHonest, IsLate}
+use Rattle.honest_runs.proofs.Progressing.{IsHonest, IsLate}
 use Rattle.honest_runs.proofs.Beginning.{begins}
 use Rattle.honest_runs.proofs.Judged.{judged_ok}
 use Rattle.honest_runs.proofs.Returning.{came_back}
