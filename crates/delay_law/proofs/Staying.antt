@@ -13,7 +13,7 @@ use Rattle.master_script.proofs.Staying.{stays_kept}
 use Rattle.run_of_file.specs.MasterOfFile.{master_of}
 use Rattle.run_of_file.specs.RunOfFile.{RunEnd, armed, call_run, commissioned, followed_by, frames_given, master_after, next_call, ran, rounded_off, run_of, settled, turns}
 use Rattle.run_of_file.proofs.InRange.{some_rows}
-use Rattle.run_schedule.proofs.Numbers.{some_kinds}
+use Rattle.run_numbers.proofs.Numbers.{some_kinds}
 use Rattle.segment_file.specs.Legal.{IsLegal}
 use Rattle.segment_file.specs.Segment.{SegmentValue, clock_at, tree_rows}
 use Rattle.segment_file.proofs.LegalLemmas.{order_many}

@@ -1,20 +1,23 @@
 -- What a drift frame brings one slave.
-use Rattle.std.proofs.Common.{◌≡◌, ◌≢◌, ℕ, ◌+◌, ◌<◌, ◌≤◌, ◌==◌, Bool, true, false, List, [], ◌∷◌, length, Some, refl, sym, ap, ap₂, subst, ◌∙◌, eq-eqb, arith}
+use Rattle.std.proofs.Common.{◌≡◌, ◌≢◌, ℕ, ◌+◌, ◌%◌, ◌^◌, ◌<◌, ◌≤◌, ◌==◌, Bool, true, false, List, [], ◌∷◌, length, Some, refl, sym, ap, ap₂, subst, ◌∙◌, eq-eqb, arith}
 use Rattle.std.specs.Prelude.{nat_lt, not, slice_get}
 use Rattle.std.proofs.lemmas.Bool.Decides.{nat_tests}
 use Rattle.drift_writes.proofs.OnTheWay.{left_none}
-use Rattle.drift_receipts.specs.Receipts.{receipt, word_at}
 use Rattle.drift_receipts.proofs.OnTheWay.{IsDrifting, cut_behind, first_like, others_behind, others_none}
 use Rattle.ecat_frame.specs.FrameGrammar.{DatagramValue}
 use Rattle.esc_regs.specs.RegisterAccess.{is_refused}
 use Rattle.esc_regs.specs.declared.clock_kind.ClockKind.{ClockKind}
+use Rattle.frame_pass.specs.Advancing.{measuring_at}
 use Rattle.frame_pass.specs.ClockHistory.{events_passed}
 use Rattle.frame_pass.specs.DatagramAtSlave.{is_refused_by, slave_after}
 use Rattle.frame_pass.specs.DatagramTable.{writes}
 use Rattle.frame_pass.specs.FramePass.{at_arrival, datagrams_behind}
+use Rattle.frame_pass.specs.LiveRegisters.{system_time}
 use Rattle.frame_pass.specs.SlaveState.{Slave, Timing, station}
+use Rattle.frame_pass.specs.WriteEffects.{difference}
 use Rattle.honest_replies.specs.Told.{AreInOrder}
 use Rattle.honest_replies.proofs.ByKind.{time_for_clocks}
+use Rattle.local_clock.specs.Reading.{Happening, received}
 use Rattle.master_script.specs.Frames.{drift_datagram}
 use Rattle.named_slaves.specs.Standing.{Stands, own_address}
 use Rattle.named_slaves.proofs.Frames.{low_where}
@@ -22,6 +25,17 @@ use Rattle.segment_shape.specs.Slaves.{has_clock}
 use Rattle.visit_laws.specs.Aside.{HaveSize}
 use Rattle.visit_laws.specs.Drift.{IsDrift, IsOther, first_behind}
 use Rattle.visit_laws.proofs.Drifting.{behind_others, carried, events_first, frame_addressed, frame_receives, passes_refused, quiet_unwritten, same_refusal}
+
+-- the low half of the system time that a slave has when the frame arrives
+abbrev pub word_at : ℕ → Slave → Timing → ℕ
+word_at sent v m = system_time (measuring_at (sent + v.visits.arrive) (record { registers = v.registers; timing = m })) % 2 ^ 32
+
+-- then the clock receives the difference of its system time and a word
+abbrev pub received_at : ℕ → Slave → Timing → ℕ → Happening
+received_at sent v m word = record {
+  instant = sent + v.visits.arrive;
+  event = received (difference (measuring_at (sent + v.visits.arrive) (record { registers = v.registers; timing = m })) word);
+}
 
 -- the first datagram of the frame
 is_drift : (r : ℕ) → IsDrift (drift_datagram r)
@@ -64,7 +78,7 @@ module _ (kinds : ℕ → ClockKind) (statuses : ℕ → ℕ) (n : ℕ) (sent : 
     -- a clock behind the reference
     pub clock_receives : (p : ℕ) (v w : Slave) (m k : Timing) → r < p → has_clock (kinds p) ≡ true → has_clock (kinds r) ≡ true → slice_get ss p ≡ Some v → v.timing ≡ Some m
         → m.clock.instant ≤ sent + v.visits.arrive → slice_get ss r ≡ Some w → w.timing ≡ Some k
-        → events_passed sent v (datagrams_behind p sent ss ds) ≡ receipt sent v m (word_at sent w k) ∷ []
+        → events_passed sent v (datagrams_behind p sent ss ds) ≡ received_at sent v m (word_at sent w k) ∷ []
     clock_receives p v w m k low clock own is timing early at_r timing_r =
         let d = drift_datagram r in
         let e = first_at p in
@@ -77,7 +91,7 @@ module _ (kinds : ℕ → ClockKind) (statuses : ℕ → ℕ) (n : ℕ) (sent : 
         (ap (λ (a : ℕ). a == station v.registers) brings.adp ∙ (other_stands r p v far is).station)
         (left_none 0x0910 4 (slave_after (at_arrival sent v) e) (rest_at p) (others_none 0x0910 4 p sent ss d drifting.others sizes drifting.time))
         (left_none 0x0930 2 (slave_after (at_arrival sent v) e) (rest_at p) (others_none 0x0930 2 p sent ss d drifting.others sizes drifting.speed))
-        ∙ ap (λ (x : ℕ). receipt sent v m x ∷ []) brings.time
+        ∙ ap (λ (x : ℕ). received_at sent v m x ∷ []) brings.time
 
     -- the reference itself
     pub reference_rests : (v : Slave) → slice_get ss r ≡ Some v → events_passed sent v (datagrams_behind r sent ss ds) ≡ []

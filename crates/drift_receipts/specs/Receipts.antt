@@ -1,36 +1,40 @@
--- What a drift frame brings the clocks that it reaches.
-use Rattle.std.specs.Prelude.{◌≡◌, ℕ, ◌+◌, ◌%◌, ◌^◌, List, ◌++◌, Some, Ok}
+-- What the drift frames of a run bring the clocks of its segment.
+use Rattle.std.specs.Prelude.{◌≡◌, ℕ, ◌+◌, ◌*◌, ◌%◌, ◌^◌, ◌==◌, ◌&&◌, not, nat_lt, Bool, true, List, [], ◌∷◌, ◌++◌, length, Option, Some, None, if◌then◌else◌}
 use Rattle.cable_tree.specs.Positions.{position_of}
+use Rattle.dc_bounds.specs.LockNumbers.{period_fs}
 use Rattle.ecat_link.specs.Exchanges.{Exchange, Runs}
-use Rattle.ecat_link.specs.Serves.{Send}
+use Rattle.esc_regs.specs.RegisterFile.{Registers}
 use Rattle.frame_pass.specs.Advancing.{measuring_at}
 use Rattle.frame_pass.specs.ClockHistory.{events_passed}
 use Rattle.frame_pass.specs.FramePass.{datagrams_behind}
 use Rattle.frame_pass.specs.LiveRegisters.{system_time}
-use Rattle.frame_pass.specs.SegmentState.{SegmentState, leaves_at, phase_of, segment_step}
+use Rattle.frame_pass.specs.Reach.{reach_of}
+use Rattle.frame_pass.specs.SegmentState.{SegmentState, leaves_at, segment_step}
 use Rattle.frame_pass.specs.SlaveState.{Slave, Timing}
-use Rattle.frame_pass.specs.WriteEffects.{difference}
+use Rattle.honest_runs.specs.FileSlaves.{kind_at}
 use Rattle.local_clock.specs.Reading.{Happening, received}
-use Rattle.master_script.specs.Script.{Call, script}
-use Rattle.master_script.specs.Scripted.{AreScripted}
-use Rattle.run_of_file.specs.MasterOfFile.{master_of}
-use Rattle.run_of_file.specs.RunOfFile.{RunEnd, commissioned, frames_given}
+use Rattle.run_of_file.specs.RunOfFile.{RunEnd, commissioned, ran}
 use Rattle.segment_file.specs.Segment.{SegmentValue, reference_row, tree_rows}
+use Rattle.segment_shape.specs.Losses.{loss_at}
+use Rattle.segment_shape.specs.Slaves.{has_clock}
 use Rattle.segment_shape.specs.declared.loss_row.Phase.TheVariants.{Drift}
-use Rattle.segment_start.specs.Start.{started_segment}
+use Rattle.wrap_time.specs.WordDifference.{word_difference}
 
--- Behind commissioning, which ended with Ok, the run of a segment has made these exchanges and led the segment to this state; and a call
--- sends this drift frame next.
-pub record IsDriftFrame (s : SegmentValue) (t : SegmentState) (e : Exchange) : Type 0 where
+-- Drift frame k of the run of a file: behind commissioning it is the k-th frame that the run sends, and it finds the segment in this state.
+pub record IsDriftFrame (s : SegmentValue) (k : ℕ) (t : SegmentState) (e : Exchange) : Type 0 where
   pub first : RunEnd
+  pub run : RunEnd
   pub commissioned : commissioned s ≡ Some first
-  pub ok : first.answer ≡ Ok tt
+  pub ran : ran s ≡ Some run
   pub before : List Exchange
-  pub scripted : AreScripted (master_of s) (frames_given s) (first.exchanges ++ before)
-  pub led : Runs segment_step (Some (started_segment s)) (first.exchanges ++ before) (Some t)
-  pub call : Call
-  pub wanted : script (master_of s) call (first.exchanges ++ before) ≡ Send e.wait_ns e.sent
-  pub drifts : phase_of e.sent.datagrams ≡ Drift
+  pub rest : List Exchange
+  pub all : run.exchanges ≡ first.exchanges ++ (before ++ e ∷ rest)
+  pub number : k ≡ length before + 1
+  pub led : Runs segment_step (Some first.state) before (Some t)
+
+-- it leaves at C + k frame periods, where commissioning sent C frames
+abbrev pub sent_at : SegmentValue → RunEnd → ℕ → ℕ
+sent_at s first k = (length first.exchanges + k) * period_fs s.head.frame_ns
 
 -- the position of the reference
 pub record IsReference (s : SegmentValue) (r : ℕ) : Type 0 where
@@ -38,17 +42,33 @@ pub record IsReference (s : SegmentValue) (r : ℕ) : Type 0 where
   pub found : reference_row s.rows ≡ Some row
   pub position : r ≡ position_of (tree_rows s.rows) row
 
--- the low half of the system time that a slave has when the frame arrives
-abbrev pub word_at : ℕ → Slave → Timing → ℕ
-word_at sent v m = system_time (measuring_at (sent + v.visits.arrive) (record { registers = v.registers; timing = m })) % 2 ^ 32
+-- a frame comes to a position: it is not lost, or it is lost behind that position
+abbrev pub comes_to : Option ℕ → ℕ → Bool
+comes_to None p = true
+comes_to (Some after) p = nat_lt p after
 
--- at the frame's arrival the clock receives the difference of its system time and a word
-abbrev pub receipt : ℕ → Slave → Timing → ℕ → Happening
-receipt sent v m word = record {
+-- at a position there is a clock, and not the reference, and drift frame k comes to it
+abbrev pub receives : SegmentValue → ℕ → ℕ → ℕ → Bool
+receives s r k p = has_clock (kind_at s p) && (not (p == r) && comes_to (loss_at s.losses Drift k) p)
+
+-- the system time that a slave has at an instant; 0 where it has no clock
+abbrev pub time_of : Registers → ℕ → Option Timing → ℕ
+time_of r at None = 0
+time_of r at (Some m) = system_time (measuring_at at (record { registers = r; timing = m }))
+
+-- its low half when a frame arrives that left then
+abbrev pub arrival_time : ℕ → Slave → ℕ
+arrival_time sent v = time_of v.registers (sent + v.visits.arrive) v.timing % 2 ^ 32
+
+-- the receipt of the difference of a clock's time and the reference's, each when the frame arrives there
+abbrev pub receipt : ℕ → Slave → Slave → Happening
+receipt sent v reference = record {
   instant = sent + v.visits.arrive;
-  event = received (difference (measuring_at (sent + v.visits.arrive) (record { registers = v.registers; timing = m })) word);
+  event = received (word_difference 32 (arrival_time sent v) (arrival_time sent reference));
 }
 
--- what a frame brings the clock of the slave at a position, where it reaches it
+-- what a frame brings the clock of the slave at a position
 abbrev pub brought : SegmentState → Exchange → ℕ → Slave → List Happening
-brought t e p v = let sent = leaves_at t e.wait_ns in events_passed sent v (datagrams_behind p sent t.slaves e.sent.datagrams)
+brought t e p v =
+    let sent = leaves_at t e.wait_ns in
+    if nat_lt p (reach_of t e.sent) then events_passed sent v (datagrams_behind p sent t.slaves e.sent.datagrams) else []

@@ -1,4 +1,5 @@
 pub mod Frames
 pub mod OnTheWay
+pub mod Corrections
 pub mod Slaves
 pub mod Runs

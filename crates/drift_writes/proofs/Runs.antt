@@ -1,17 +1,21 @@
 -- Behind commissioning the slaves hold what they held.
-use Rattle.std.proofs.Common.{◌≡◌, ℕ, ◌+◌, ◌<◌, List, [], ◌∷◌, ◌++◌, length, Some, inl, sym, ap, subst, ◌∙◌, arith}
+use Rattle.std.proofs.Common.{◌≡◌, ℕ, ◌+◌, ◌<◌, List, [], ◌∷◌, ◌++◌, length, map, Option, Some, None, inl, refl, sym, ap, subst, ◌∙◌, arith}
+use Rattle.std.specs.Prelude.{Ok, Err, option_map, slice_get}
 use Rattle.std.specs.List.{AllByRecursion}
+use Rattle.std.proofs.lemmas.Option.{slice_get-map}
 use Rattle.drift_writes.specs.Untouched.{HoldAlike, IsUntouched}
 use Rattle.drift_writes.proofs.Frames.{drift_step, times_untouched}
-use Rattle.drift_writes.proofs.Slaves.{IsHeldOn, IsQuiet, frames_hold}
+use Rattle.drift_writes.proofs.Slaves.{IsHeldOn, IsKept, IsQuiet, finished_alike, frames_alike}
 use Rattle.ecat_frame.specs.FrameGrammar.{DatagramValue, FrameValue}
 use Rattle.ecat_link.specs.Exchanges.{Exchange}
 use Rattle.ecat_link.specs.Serves.{Send}
+use Rattle.frame_pass.specs.Invariants.{IsSoundSegment}
 use Rattle.frame_pass.specs.SegmentState.{phase_of}
+use Rattle.frame_pass.specs.SlaveState.{Slave, holds}
 use Rattle.honest_runs.proofs.Turning.{sent_by}
 use Rattle.master_script.specs.Config.{ConfigValue}
 use Rattle.master_script.specs.Progress.{progress}
-use Rattle.master_script.specs.Script.{Call, script}
+use Rattle.master_script.specs.Script.{Answer, Call, script}
 use Rattle.master_script.specs.Scripted.{AreScripted, more, none}
 use Rattle.master_script.specs.Steps.{datagrams_of}
 use Rattle.master_script.specs.Words.{Words}
@@ -20,12 +24,15 @@ use Rattle.master_script.proofs.Wants.{wants}
 use Rattle.run_counts.specs.Numbered.{AreNumbered}
 use Rattle.run_counts.proofs.Following.{Drifted, armed_drifted, ran_drifted, settled_drifted}
 use Rattle.run_of_file.specs.MasterOfFile.{master_of}
-use Rattle.run_of_file.specs.RunOfFile.{RunEnd, armed, commissioned, frames_given, ran, settled}
-use Rattle.run_of_file.proofs.Ending.{commissioned_on}
-use Rattle.run_schedule.proofs.Numbers.{some_kinds}
+use Rattle.run_of_file.specs.RunOfFile.{RunEnd, armed, commissioned, end_of_run, frames_given, ran, rounded_off, run_of, settled}
+use Rattle.run_of_file.proofs.Ending.{commissioned_on, ran_on}
+use Rattle.run_numbers.proofs.Numbers.{some_kinds}
 use Rattle.segment_file.specs.Legal.{IsLegal}
 use Rattle.segment_file.specs.Segment.{SegmentValue}
 use Rattle.segment_shape.specs.declared.loss_row.Phase.TheVariants as phase
+
+some_same : {X : Type 0} {x y : X} → Some x ≡ Some y → x ≡ y
+some_same e = cc
 
 -- an exchange sends the frame of a step
 record IsOfStep (cfg : ConfigValue) (e : Exchange) : Type 0 where
@@ -64,20 +71,54 @@ quiet_frames s cfg at n far number (e ∷ es) steps numbered =
     } in
     (subst (IsQuiet at n) (sym one.is) quiet, quiet_frames s cfg at n far (number + 1) es steps.1 numbered.2)
 
-module _ (s : SegmentValue) (legal : IsLegal s) (at n : ℕ) (held : IsHeldOn at n) (far : IsUntouched at n) where
-  drifted_holds : (first run : RunEnd) → commissioned s ≡ Some first → Drifted s first run → HoldAlike at n first.state.slaves run.state.slaves
-  drifted_holds first run was d =
+module _ {X : Type 0} (see : Slave → X) (at n : ℕ) (kept : IsKept see at n) (far : IsUntouched at n) (s : SegmentValue) (legal : IsLegal s) where
+  drifted_alike : (first run : RunEnd) → commissioned s ≡ Some first → Drifted s first run → map see run.state.slaves ≡ map see first.state.slaves
+  drifted_alike first run was d =
       let cfg = master_of s in
       let some = some_kinds s legal in
       let steps = all_behind cfg (frames_given s) some first.exchanges d.more
       (subst (AllByRecursion (IsOfStep cfg)) d.all (scripted_steps cfg (frames_given s) some run.exchanges d.led.scripted)) in
-      frames_hold at n held d.more first.state run.state ((commissioned_on s legal).on first was).timely (quiet_frames s cfg at n far 1 d.more steps d.numbered) d.runs
+      frames_alike see at n kept d.more first.state run.state ((commissioned_on s legal).on first was).timely (quiet_frames s cfg at n far 1 d.more steps d.numbered) d.runs
 
+  pub settled_alike : (first run : RunEnd) → commissioned s ≡ Some first → settled s ≡ Some run → map see run.state.slaves ≡ map see first.state.slaves
+  settled_alike first run was is = drifted_alike first run was (settled_drifted s legal first run was is)
+
+  pub armed_alike : (first run : RunEnd) → commissioned s ≡ Some first → armed s ≡ Some run → map see run.state.slaves ≡ map see first.state.slaves
+  armed_alike first run was is = drifted_alike first run was (armed_drifted s legal first run was is)
+
+  pub ran_alike : (first run : RunEnd) → commissioned s ≡ Some first → ran s ≡ Some run → map see run.state.slaves ≡ map see first.state.slaves
+  ran_alike first run was is = drifted_alike first run was (ran_drifted s legal first run was is)
+
+  -- behind the last phase the clocks go on
+  rounded_alike : (run : RunEnd) (answer : Answer) → IsSoundSegment run.state → map see (rounded_off s run answer).state.slaves ≡ map see run.state.slaves
+  rounded_alike run (Ok tt) sound = finished_alike see at n kept (end_of_run s run.state) run.state sound
+  rounded_alike run (Err e) sound = refl
+
+  pub whole_alike : (first run : RunEnd) → commissioned s ≡ Some first → run_of s ≡ Some run → map see run.state.slaves ≡ map see first.state.slaves
+  unfolding run_of
+  whole_alike first run was is = by (ran s) refl is
+    where
+      by : (o : Option RunEnd) → ran s ≡ o → option_map (λ r. rounded_off s r r.answer) o ≡ Some run → map see run.state.slaves ≡ map see first.state.slaves
+      by None e whole = absurd (let x = whole in cc)
+      by (Some last) e whole =
+          let same : rounded_off s last last.answer ≡ run = cc in
+          ap (λ (r : RunEnd). map see r.state.slaves) (sym same) ∙ rounded_alike last last.answer ((ran_on s legal).on last e).timely ∙ ran_alike first last was e
+
+-- of the slave at a position
+pub alike_at : {X : Type 0} (see : Slave → X) (before after : List Slave) → map see after ≡ map see before → (p : ℕ) (v w : Slave) → slice_get before p ≡ Some v → slice_get after p ≡ Some w → see w ≡ see v
+alike_at see before after alike p v w is behind =
+    some_same
+    (sym (slice_get-map see after p ∙ ap (option_map see) behind) ∙ ap (λ xs. slice_get xs p) alike ∙ slice_get-map see before p ∙ ap (option_map see) is)
+
+module _ (s : SegmentValue) (legal : IsLegal s) (at n : ℕ) (held : IsHeldOn at n) (far : IsUntouched at n) where
   pub settled_holds : (first run : RunEnd) → commissioned s ≡ Some first → settled s ≡ Some run → HoldAlike at n first.state.slaves run.state.slaves
-  settled_holds first run was is = drifted_holds first run was (settled_drifted s legal first run was is)
+  settled_holds first run was is = alike_at (λ v. holds n at v.registers) first.state.slaves run.state.slaves (settled_alike (λ v. holds n at v.registers) at n held far s legal first run was is)
 
   pub armed_holds : (first run : RunEnd) → commissioned s ≡ Some first → armed s ≡ Some run → HoldAlike at n first.state.slaves run.state.slaves
-  armed_holds first run was is = drifted_holds first run was (armed_drifted s legal first run was is)
+  armed_holds first run was is = alike_at (λ v. holds n at v.registers) first.state.slaves run.state.slaves (armed_alike (λ v. holds n at v.registers) at n held far s legal first run was is)
 
   pub ran_holds : (first run : RunEnd) → commissioned s ≡ Some first → ran s ≡ Some run → HoldAlike at n first.state.slaves run.state.slaves
-  ran_holds first run was is = drifted_holds first run was (ran_drifted s legal first run was is)
+  ran_holds first run was is = alike_at (λ v. holds n at v.registers) first.state.slaves run.state.slaves (ran_alike (λ v. holds n at v.registers) at n held far s legal first run was is)
+
+  pub whole_holds : (first run : RunEnd) → commissioned s ≡ Some first → run_of s ≡ Some run → HoldAlike at n first.state.slaves run.state.slaves
+  whole_holds first run was is = alike_at (λ v. holds n at v.registers) first.state.slaves run.state.slaves (whole_alike (λ v. holds n at v.registers) at n held far s legal first run was is)

@@ -1,10 +1,12 @@
--- Places that the frames behind commissioning do not write.
-use Rattle.std.specs.Prelude.{◌≡◌, ◌⊎◌, ℕ, true, List, length, Some, slice_get}
+-- Places that the frames behind commissioning do not write, and what stays there.
+use Rattle.std.specs.Prelude.{◌≡◌, ◌⊎◌, ℕ, true, List, length, Option, Some, option_map, slice_get}
 use Rattle.std.specs.List.{AllByRecursion}
 use Rattle.ecat_frame.specs.FrameGrammar.{DatagramValue}
 use Rattle.esc_regs.specs.RegisterBytes.{AreApart}
+use Rattle.frame_pass.specs.PlainRegisters.{IsPlain}
 use Rattle.frame_pass.specs.SlaveState.{Slave, holds}
 use Rattle.visit_laws.specs.Aside.{never_writes}
+use Rattle.visit_laws.specs.ReceiveTimes.{IsReceiveTime}
 
 -- the n bytes at a place are none of the system time, the activation, the start time and the cycle times
 pub record IsUntouched (at n : ℕ) : Type 0 where
@@ -20,7 +22,20 @@ WritesNone at n d = (never_writes d.head.command ≡ true) ⊎ AreApart d.head.a
 abbrev pub WriteNone : ℕ → ℕ → List DatagramValue → Type 0
 WriteNone at n ds = AllByRecursion (WritesNone at n) ds
 
+-- The n bytes at a place last behind commissioning: they are receive times, or no drift frame writes them and no slave sets them itself.
+abbrev pub AreLasting : ℕ → ℕ → Type 0
+AreLasting at n = IsReceiveTime at n ⊎ (IsPlain at n × IsUntouched at n)
+
 -- the slaves hold the same number there, one by one
 abbrev pub HoldAlike : ℕ → ℕ → List Slave → List Slave → Type 0
 HoldAlike at n before after =
     (p : ℕ) (v w : Slave) → slice_get before p ≡ Some v → slice_get after p ≡ Some w → holds n at w.registers ≡ holds n at v.registers
+
+-- how many ticks there are to a correction, where a slave has a clock that counts
+abbrev pub ticks_to_correction : Slave → Option ℕ
+ticks_to_correction v = option_map (λ m. m.clock.g) v.timing
+
+-- so many are there at each slave, one by one
+abbrev pub CorrectAlike : List Slave → List Slave → Type 0
+CorrectAlike before after =
+    (p : ℕ) (v w : Slave) → slice_get before p ≡ Some v → slice_get after p ≡ Some w → ticks_to_correction w ≡ ticks_to_correction v

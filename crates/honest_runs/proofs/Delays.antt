@@ -33,7 +33,7 @@ use Rattle.honest_replies.proofs.Numbers.{flagged, words_many}
 use Rattle.run_of_file.specs.MasterOfFile.{master_of}
 use Rattle.run_of_file.specs.RunOfFile.{RunEnd, turns, commissioned, master_after}
 use Rattle.honest_runs.specs.FileSlaves.{kind_at, row_at, status_at}
-use Rattle.honest_runs.specs.Progressing.{IsLate, IsHonest}
+use Rattle.honest_runs.proofs.Progressing.{IsLate, IsHonest}
 use Rattle.honest_runs.proofs.Judged.{judged_ok}
 use Rattle.honest_runs.proofs.Positions.{row_has}
 use Rattle.honest_runs.proofs.Runs.{commissioned_honest}

@@ -22,7 +22,7 @@ use Rattle.honest_replies.proofs.Mindful.{mindful_step, naming, names}
 use Rattle.honest_replies.proofs.Numbers.{words_many}
 use Rattle.honest_replies.proofs.Replies.{judged_none}
 use Rattle.honest_replies.proofs.Identifying.{reads_of, identify_tells, identify_counts}
-use Rattle.honest_runs.specs.Progressing.{identifying, IsEarly, IsLate, IsHonest}
+use Rattle.honest_runs.proofs.Progressing.{identifying, IsEarly, IsLate, IsHonest}
 use Rattle.honest_runs.proofs.Meant.{later_meant}
 use Rattle.honest_runs.proofs.Returning.{came_back, undisturbed, order_stays, order_grows}
 use Rattle.honest_runs.proofs.Turning.{sent_by, lost_once}

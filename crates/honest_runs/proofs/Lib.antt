@@ -1,3 +1,4 @@
+pub mod Progressing
 pub mod Beginning
 pub mod Judged
 pub mod Returning

@@ -32,8 +32,7 @@ use Rattle.run_of_file.specs.MasterOfFile.{master_of}
 use Rattle.run_of_file.specs.RunOfFile.{RunEnd, turns, call_run, next_call, followed_by, frames_given, commissioned, settled, armed, ran}
 use Rattle.run_of_file.proofs.InRange.{as_many_kinds, some_rows}
 use Rattle.honest_runs.specs.FileSlaves.{kind_at, status_at}
-use Rattle.honest_runs.specs.Progressing.{IsHonest}
-use Rattle.honest_runs.specs.Refusals.{IsLoss}
+use Rattle.honest_runs.proofs.Progressing.{IsHonest, IsLoss}
 use Rattle.honest_runs.proofs.Beginning.{begins}
 use Rattle.honest_runs.proofs.Judged.{judged_ok}
 use Rattle.honest_runs.proofs.Turns.{honest_turn}

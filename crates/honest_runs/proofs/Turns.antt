@@ -16,7 +16,7 @@ use Rattle.master_script.specs.declared.step.Refusal.{Refusal}
 use Rattle.master_script.specs.declared.step.Step.{Step}
 use Rattle.master_script.specs.declared.step.Step.TheVariants.{Count, Identify, Drift}
 use Rattle.honest_replies.specs.Told.{words_of, AreInOrder}
-use Rattle.honest_runs.specs.Progressing.{identifying, IsLate, IsHonest}
+use Rattle.honest_runs.proofs.Progressing.{identifying, IsLate, IsHonest}
 use Rattle.honest_runs.proofs.Turning.{same_drift, asked_late, settling_late, running_late, count_early}
 use Rattle.honest_runs.proofs.Identified.{identify_early}
 

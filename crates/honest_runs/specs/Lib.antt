@@ -1,3 +1,1 @@
 pub mod FileSlaves
-pub mod Progressing
-pub mod Refusals

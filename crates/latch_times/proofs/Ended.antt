@@ -16,7 +16,7 @@ use Rattle.master_script.specs.Script.{Answer, Commission, script}
 use Rattle.master_script.specs.declared.step.Step.TheVariants.{Latch as LatchStep}
 use Rattle.master_script.proofs.Calls.{commission_done}
 use Rattle.honest_runs.specs.FileSlaves.{kind_at, row_at, status_at}
-use Rattle.honest_runs.specs.Progressing.{IsLate}
+use Rattle.honest_runs.proofs.Progressing.{IsLate}
 use Rattle.honest_runs.proofs.Positions.{row_has}
 use Rattle.run_of_file.specs.MasterOfFile.{master_of}
 use Rattle.run_of_file.specs.RunOfFile.{RunEnd, commissioned, turns}

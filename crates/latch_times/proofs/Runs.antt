@@ -40,7 +40,7 @@ use Rattle.named_slaves.proofs.Frames.{had_before, same_many}
 use Rattle.honest_replies.specs.Told.{IsMeant}
 use Rattle.honest_replies.proofs.Mindful.{mindful_step}
 use Rattle.honest_runs.specs.FileSlaves.{kind_at, status_at}
-use Rattle.honest_runs.specs.Progressing.{IsHonest, IsLate}
+use Rattle.honest_runs.proofs.Progressing.{IsHonest, IsLate}
 use Rattle.honest_runs.proofs.Beginning.{begins}
 use Rattle.honest_runs.proofs.Judged.{judged_ok}
 use Rattle.honest_runs.proofs.Returning.{came_back}
@@ -49,7 +49,7 @@ use Rattle.honest_runs.proofs.Turns.{honest_turn}
 use Rattle.run_of_file.specs.MasterOfFile.{master_of}
 use Rattle.run_of_file.specs.RunOfFile.{frames_given}
 use Rattle.run_of_file.proofs.InRange.{as_many_kinds, some_rows}
-use Rattle.run_schedule.proofs.Numbers.{InStep, in_phase, master_frame_ns, some_kinds, starts_in_step, step_in_step}
+use Rattle.run_numbers.proofs.Numbers.{InStep, in_phase, master_frame_ns, some_kinds, starts_in_step, step_in_step}
 use Rattle.latch_times.specs.Resting.{AllRest, row_there, shown_at}
 use Rattle.latch_times.specs.HeldTimes.{AllHold, HoldsTimes}
 use Rattle.latch_times.specs.ToldTimes.{TellsTimes}

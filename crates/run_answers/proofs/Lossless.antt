@@ -1,5 +1,5 @@
 -- A segment without losses loses no step.
-use Rattle.std.proofs.Common.{◌≡◌, ℕ, ◌+◌, Bool, true, false, List, [], ◌∷◌, Option, None, is_some, refl, ap, ◌∙◌}
+use Rattle.std.proofs.Common.{◌≡◌, ℕ, ◌+◌, Bool, true, false, List, [], ◌∷◌, None, is_some, refl, ap}
 use Rattle.std.specs.Result.{result_err}
 use Rattle.lost_step.specs.LostStep.{arm_steps, asked, behind_tries, commission_steps, first_arming, loses, lost_step_of}
 use Rattle.master_script.specs.declared.step.Step.{Step}

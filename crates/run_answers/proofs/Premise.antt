@@ -1,5 +1,5 @@
 -- Replies in the run of a legal segment are honest.
-use Rattle.std.proofs.Common.{◌≡◌, ℕ, Some, ap, sym, ◌∙◌}
+use Rattle.std.proofs.Common.{◌≡◌, Some, ap, ◌∙◌}
 use Rattle.std.specs.Prelude.{Err}
 use Rattle.honest_runs.proofs.Delays.{judged_told}
 use Rattle.honest_runs.proofs.Positions.{told_measuring, told_clocks}

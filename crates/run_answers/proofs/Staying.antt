@@ -1,14 +1,14 @@
 -- What commissioning has measured stays to the end of a run.
-use Rattle.std.proofs.Common.{◌≡◌, ℕ, ◌<◌, List, [], ◌++◌, length, map, Option, Some, None, is_some, refl, sym, ap, subst, ◌∙◌, append_assoc, arith}
+use Rattle.std.proofs.Common.{◌≡◌, ℕ, List, [], ◌++◌, length, map, Option, Some, None, is_some, refl, sym, ap, ◌∙◌, append_assoc, arith}
 use Rattle.std.specs.Prelude.{Ok, Err}
 use Rattle.std.proofs.lemmas.List.{length-map}
 use Rattle.cable_tree.specs.FrameOrder.{order}
 use Rattle.ecat_link.specs.Exchanges.{Exchange}
 use Rattle.ecat_link.proofs.Driving.{driven}
-use Rattle.frame_pass.specs.SegmentState.{SegmentState, segment_step}
+use Rattle.frame_pass.specs.SegmentState.{segment_step}
 use Rattle.honest_runs.proofs.Delays.{delays_whole}
 use Rattle.master_script.specs.Config.{ConfigValue}
-use Rattle.master_script.specs.Kept.{Kept, kept_after}
+use Rattle.master_script.specs.Kept.{kept_after}
 use Rattle.master_script.specs.Script.{Answer, Arm, Call, Run, Settle, script}
 use Rattle.master_script.proofs.Staying.{stays_kept}
 use Rattle.run_of_file.specs.MasterOfFile.{master_of}

@@ -1,6 +1,6 @@
 //! Laws over the definitions alone, for proofs of the layers above. They speak of any legal segment.
 
-ghost use Rattle.std.specs.Prelude.{◌≡◌, ℕ, ◌+◌, ◌*◌, ◌≤◌, length, map, Bool, [], Some, None, Ok, true, false};
+ghost use Rattle.std.specs.Prelude.{◌≡◌, ◌+◌, ◌*◌, ◌≤◌, length, map, Bool, [], Some, None, Ok, true, false};
 ghost use Rattle.std.specs.Option.{is_some};
 ghost use Rattle.cable_tree.specs.FrameOrder.{order};
 ghost use Rattle.lost_step.specs.LostStep.{clock_positions, commission_steps, lost_step_of};

@@ -20,9 +20,9 @@ use Rattle.run_of_file.specs.MasterOfFile.{master_of}
 use Rattle.run_of_file.specs.RunOfFile.{RunEnd, armed, commissioned, followed_by, frames_given, ran, run_of, settled}
 use Rattle.run_schedule.proofs.ArmingRun.{arm_done, master_first}
 use Rattle.run_schedule.proofs.Commissioned.{commission_came}
-use Rattle.run_schedule.proofs.Following.{Followed, HasGone, followed, led_on, off, on}
+use Rattle.run_numbers.proofs.Following.{Followed, HasGone, followed, led_on, off, on}
 use Rattle.run_schedule.proofs.Joined.{is_settled}
-use Rattle.run_schedule.proofs.Numbers.{in_step}
+use Rattle.run_numbers.proofs.Numbers.{in_step}
 use Rattle.run_schedule.proofs.Shape.{ran_sends, settled_sends}
 use Rattle.segment_file.specs.Legal.{IsLegal}
 use Rattle.segment_file.specs.Segment.{SegmentValue, clocks}

@@ -21,14 +21,14 @@ use Rattle.run_of_file.specs.MasterOfFile.{master_of}
 use Rattle.run_of_file.specs.RunOfFile.{RunEnd, armed, commissioned, frames_given, ran, run_of, settled}
 use Rattle.run_of_file.proofs.InRange.{as_many_kinds}
 use Rattle.run_schedule.specs.Honest.{TellsKinds}
-use Rattle.run_schedule.proofs.Arming.{ArmsBy, StopsArming}
+use Rattle.script_tries.specs.Arming.{ArmsBy, StopsArming}
 use Rattle.run_schedule.proofs.ArmingRun.{arm_stands, master_first}
 use Rattle.run_schedule.proofs.Commissioned.{has_commissioned}
-use Rattle.run_schedule.proofs.Commissioning.{StandsBy, Stops, steps_known}
-use Rattle.run_schedule.proofs.Ends.{ended, never_spent, refused_at_end}
-use Rattle.run_schedule.proofs.Following.{Followed, HasGone, followed, led_on, off, on}
+use Rattle.script_tries.specs.Commissioning.{StandsBy, Stops, steps_known}
+use Rattle.run_numbers.proofs.Ends.{ended, never_spent, refused_at_end}
+use Rattle.run_numbers.proofs.Following.{Followed, HasGone, followed, led_on, off, on}
 use Rattle.run_schedule.proofs.Joined.{armed_answers, commissioned_answers, is_settled, ran_answers, settled_answers}
-use Rattle.run_schedule.proofs.Numbers.{in_step}
+use Rattle.run_numbers.proofs.Numbers.{in_step}
 use Rattle.run_schedule.proofs.Shape.{armed_sends, commissioned_sends, ran_sends, settled_sends}
 use Rattle.segment_file.specs.Legal.{IsLegal}
 use Rattle.segment_file.specs.Segment.{SegmentValue, clocks}

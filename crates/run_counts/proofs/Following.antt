@@ -12,8 +12,8 @@ use Rattle.run_counts.proofs.Numbering.{Went, call_went, numbered_then}
 use Rattle.run_of_file.specs.MasterOfFile.{master_of}
 use Rattle.run_of_file.specs.RunOfFile.{RunEnd, armed, commissioned, frames_given, ran, settled}
 use Rattle.run_schedule.proofs.Commissioned.{has_commissioned}
-use Rattle.run_schedule.proofs.Following.{Followed, HasGone, IsLed, followed, led_on, off, on}
-use Rattle.run_schedule.proofs.Numbers.{frames_of, in_step, starts_in_step}
+use Rattle.run_numbers.proofs.Following.{Followed, HasGone, IsLed, followed, led_on, off, on}
+use Rattle.run_numbers.proofs.Numbers.{frames_of, in_step, starts_in_step}
 use Rattle.segment_file.specs.Legal.{IsLegal}
 use Rattle.segment_file.specs.Segment.{SegmentValue}
 use Rattle.segment_shape.specs.declared.loss_row.Phase.{Phase}
@@ -69,8 +69,8 @@ went_of s legal call limited before run led gone =
 
 module _ (s : SegmentValue) (legal : IsLegal s) where
   -- none yet
-  commission_drifted : (run : RunEnd) → commissioned s ≡ Some run → Drifted s run run
-  commission_drifted run is =
+  pub commission_none : (run : RunEnd) → commissioned s ≡ Some run → run.state.drift ≡ 0
+  commission_none run is =
       let h = (has_commissioned s legal run is).0 in
       let start = starts_in_step s in
       let went = call_went s legal Commission tt [] run.exchanges (started_segment s) run.state none start h.sends h.runs in
@@ -82,13 +82,18 @@ module _ (s : SegmentValue) (legal : IsLegal s) where
       let sent = end.sent in
       let both = end.commission in
       let count = progress_sent (master_of s) run.exchanges in
+      omega (arith, first_sent, first_both, first_count, last, sent, both, count)
+
+  pub commission_drifted : (run : RunEnd) → commissioned s ≡ Some run → Drifted s run run
+  commission_drifted run is =
+      let h = (has_commissioned s legal run is).0 in
       record {
         led = record { scripted = h.scripted; runs = h.runs };
         more = [];
         all = sym (append-nil run.exchanges);
         runs = refl;
         numbered = tt;
-        many = omega (arith, first_sent, first_both, first_count, last, sent, both, count);
+        many = commission_none run is;
       }
 
   behind_call : (call : Call) → IsLimited (frames_given s) call → frames_of call ≡ phase.Drift → (first before run : RunEnd) → Drifted s first before → Followed s call before run → Drifted s first run

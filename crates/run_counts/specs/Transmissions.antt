@@ -1,6 +1,7 @@
 -- How many frames a run sends.
 use Rattle.std.specs.Prelude.{◌≡◌, ℕ, ◌+◌, length}
 use Rattle.ecat_link.specs.Exchanges.{lost_among}
+use Rattle.master_script.specs.Kept.{Kept}
 use Rattle.run_counts.specs.Phases.{Phases}
 use Rattle.run_of_file.specs.RunOfFile.{RunEnd, frames_given}
 use Rattle.segment_file.specs.Faults.{lock_in}
@@ -26,3 +27,9 @@ pub record AreCounted (s : SegmentValue) (run : RunEnd) (phases : Phases s run) 
   pub arming : length phases.arming ≡ clocks s.rows + lost_among phases.arming
   pub running : length phases.running ≡ frames_given s
   pub whole : length run.exchanges ≡ whole_sends s + lost_among phases.commissioning + lost_among phases.arming
+
+-- A master has counted all sendings of the run, and its losses: a frame of settling or of the run phase that does not come back counts as
+-- lost, and is not sent once more.
+pub record HasCounted (s : SegmentValue) (m : Kept) (run : RunEnd) (phases : Phases s run) : Type 0 where
+  pub sent : m.sent ≡ whole_sends s + lost_among phases.commissioning + lost_among phases.arming
+  pub lost : m.lost ≡ lost_among phases.commissioning + lost_among phases.settling + lost_among phases.arming + lost_among phases.running

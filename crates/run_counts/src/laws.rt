@@ -7,7 +7,7 @@ ghost use Rattle.master_script.specs.Kept.{Kept};
 ghost use Rattle.master_script.specs.Script.{Answer};
 ghost use Rattle.run_counts.specs.Numbered.{AreNumbered};
 ghost use Rattle.run_counts.specs.Phases.{Phases};
-ghost use Rattle.run_counts.specs.Transmissions.{AreCounted, commissioning_sends};
+ghost use Rattle.run_counts.specs.Transmissions.{AreCounted, HasCounted, commissioning_sends};
 ghost use Rattle.run_of_file.specs.AtEnd.{IsAtEnd};
 ghost use Rattle.run_of_file.specs.RunOfFile.{RunEnd, armed, commissioned, ran, run_of, settled};
 ghost use Rattle.segment_file.specs.Legal.{IsLegal};
@@ -15,8 +15,8 @@ ghost use Rattle.segment_file.specs.Segment.{SegmentValue};
 ghost use Rattle.segment_shape.specs.declared.loss_row.Phase.TheVariants as phase;
 
 /// The frames of commissioning are commission frames, numbered from 1; those of settling, arming and running are drift frames, numbered
-/// from 1 again. So commission number k is transmission k, and drift number k is transmission C + k, with C those of commissioning. Those
-/// that the file lists do not come back.
+/// from 1 again. So commission number k is transmission k, and drift number k is transmission C + k, with C those of commissioning. A frame
+/// does not come back exactly where the file lists its number in its phase.
 pub fn frames_are_numbered()
     ensures commission { (s : SegmentValue) (run : RunEnd) → IsLegal s → commissioned s ≡ Some run → AreNumbered s phase.Commission 1 run.exchanges }
     ensures settled { (s : SegmentValue) (first run : RunEnd) → IsLegal s → commissioned s ≡ Some first → settled s ≡ Some run
@@ -32,8 +32,10 @@ pub fn frames_are_numbered()
 pub fn transmissions_are_told()
     ensures delays { (s : SegmentValue) (run : RunEnd) → IsLegal s → commissioned s ≡ Some run → run.answer ≡ Ok tt
         → length run.exchanges ≡ commissioning_sends s + lost_among run.exchanges }
-    ensures ran { (s : SegmentValue) (run : RunEnd) → IsLegal s → ran s ≡ Some run → run.answer ≡ Ok tt → (phases : Phases s run) × AreCounted s run phases }
-    ensures whole { (s : SegmentValue) (run : RunEnd) → IsLegal s → run_of s ≡ Some run → run.answer ≡ Ok tt → (phases : Phases s run) × AreCounted s run phases }
+    ensures ran { (s : SegmentValue) (run : RunEnd) → IsLegal s → ran s ≡ Some run → run.answer ≡ Ok tt
+        → (phases : Phases s run) × AreCounted s run phases }
+    ensures whole { (s : SegmentValue) (run : RunEnd) → IsLegal s → run_of s ≡ Some run → run.answer ≡ Ok tt
+        → (phases : Phases s run) × AreCounted s run phases }
 {}
 
 /// No run sends more than 100,000 frames, whether it is refused or not.
@@ -45,12 +47,21 @@ pub fn transmissions_are_few()
     ensures whole { (s : SegmentValue) (run : RunEnd) → IsLegal s → run_of s ≡ Some run → length run.exchanges ≤ 100000 }
 {}
 
-/// A master behind its commissioning has counted so many sendings and losses, and one at any point of a run few sendings.
+/// What a master counts is what the run has sent. Behind a commissioning that ended with Ok it has counted n + N_m + N_c + 3 sendings and
+/// one more for each loss. Behind a run that ended with Ok it has counted the sendings of all phases, and each frame that did not come
+/// back as one loss; of these, the frames of commissioning and arming were sent once more, and those of settling and of the run phase were
+/// not. At the end of commissioning and of the run, refused or not, it has counted at most 100,000 sendings.
 pub fn masters_count_transmissions()
     ensures delays { (s : SegmentValue) (state : SegmentState) (m : Kept) → IsLegal s → IsAtEnd s None (commissioned s) state m (Ok tt)
         → m.sent ≡ commissioning_sends s + m.lost }
-    ensures commissioned { (s : SegmentValue) (frames : Option ℕ) (state : SegmentState) (m : Kept) (answer : Answer) → IsLegal s
+    ensures ran { (s : SegmentValue) (frames : Option ℕ) (state : SegmentState) (m : Kept) → IsLegal s
+        → (at : IsAtEnd s frames (ran s) state m (Ok tt))
+        → (phases : Phases s at.end) × HasCounted s m at.end phases }
+    ensures whole { (s : SegmentValue) (frames : Option ℕ) (state : SegmentState) (m : Kept) → IsLegal s
+        → (at : IsAtEnd s frames (run_of s) state m (Ok tt))
+        → (phases : Phases s at.end) × HasCounted s m at.end phases }
+    ensures few_in_commissioning { (s : SegmentValue) (frames : Option ℕ) (state : SegmentState) (m : Kept) (answer : Answer) → IsLegal s
         → IsAtEnd s frames (commissioned s) state m answer → m.sent ≤ 100000 }
-    ensures whole { (s : SegmentValue) (frames : Option ℕ) (state : SegmentState) (m : Kept) (answer : Answer) → IsLegal s
+    ensures few_in_all { (s : SegmentValue) (frames : Option ℕ) (state : SegmentState) (m : Kept) (answer : Answer) → IsLegal s
         → IsAtEnd s frames (run_of s) state m answer → m.sent ≤ 100000 }
 {}

@@ -1,8 +1,7 @@
 -- A master over a segment makes the run of the file, call by call.
-use Rattle.std.proofs.Common.{◌≡◌, ℕ, ◌+◌, ◌*◌, ◌<◌, ◌≤◌, List, [], ◌∷◌, ◌++◌, length, Option, Some, None, refl, sym, ap, subst, ◌∙◌, arith, length-append}
-use Rattle.std.specs.Prelude.{Ok, Err}
-use Rattle.ecat_link.specs.Drive.{Ending, drive}
-use Rattle.ecat_link.specs.Exchanges.{Exchange, Runs}
+use Rattle.std.proofs.Common.{◌≡◌, ℕ, ◌+◌, ◌<◌, List, [], ◌++◌, length, Option, Some, None, refl, sym, ap, subst, ◌∙◌, arith, length-append}
+use Rattle.std.specs.Prelude.{Ok}
+use Rattle.ecat_link.specs.Exchanges.{Exchange}
 use Rattle.ecat_link.specs.Serves.{Serves, Sends, End}
 use Rattle.ecat_link.proofs.Driving.{run_is}
 use Rattle.master_script.specs.Config.{ConfigValue}
@@ -18,7 +17,7 @@ use Rattle.run_of_file.specs.MasterOfFile.{master_of}
 use Rattle.run_of_file.specs.RunOfFile.{RunEnd, turns, call_run, next_call, followed_by, frames_given, commissioned, settled, armed, ran, master_after}
 use Rattle.run_of_file.specs.AtEnd.{IsAtEnd}
 use Rattle.run_of_file.proofs.InRange.{as_many_kinds, some_rows, few_rows, lock_in_few, loss_run_few, frames_few}
-use Rattle.run_of_file.proofs.Ending.{HasEnd, IsOn, turns_are, commissioned_on, settled_on, armed_on}
+use Rattle.run_of_file.proofs.Ending.{HasEnd, turns_are, commissioned_on, settled_on, armed_on}
 
 some_same : {X : Type 0} {x y : X} → Some x ≡ Some y → x ≡ y
 some_same e = cc

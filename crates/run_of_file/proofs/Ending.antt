@@ -1,13 +1,11 @@
 -- Every phase of a run ends, follows the script, and lets time go on.
-use Rattle.std.proofs.Common.{◌≡◌, ℕ, ◌+◌, ◌*◌, ◌<◌, ◌≤◌, List, [], ◌∷◌, ◌++◌, length, Option, Some, None, refl, sym, ap, subst, ◌∙◌, arith}
+use Rattle.std.proofs.Common.{◌≡◌, ℕ, ◌+◌, ◌*◌, ◌<◌, ◌≤◌, List, [], ◌∷◌, length, Option, Some, None, refl, sym, subst, arith}
 use Rattle.std.specs.Prelude.{IsSome, Ok, Err, option_map}
-use Rattle.ecat_link.specs.Drive.{Ending, IsDriven, drive}
 use Rattle.ecat_link.specs.Exchanges.{Exchange, Runs}
 use Rattle.ecat_link.proofs.Driving.{driven}
-use Rattle.master_script.specs.Config.{settle_frames}
 use Rattle.master_script.specs.Script.{Call, Commission, Settle, Arm, Run, Answer, script}
 use Rattle.master_script.specs.Scripted.{AreScripted, IsLimited, none}
-use Rattle.master_script.proofs.Limits.{call_ends, calls_scripted, sends_most}
+use Rattle.master_script.proofs.Limits.{call_ends, calls_scripted}
 use Rattle.frame_pass.specs.SegmentState.{SegmentState, segment_step}
 use Rattle.frame_pass.specs.Invariants.{IsSoundSegment}
 use Rattle.frame_pass.proofs.Sound.{timely_step}

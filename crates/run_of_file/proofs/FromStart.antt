@@ -1,5 +1,5 @@
 -- The exchanges of a run are those that the segment makes of its frames, from its start on.
-use Rattle.std.proofs.Common.{◌≡◌, ℕ, ◌+◌, ◌≤◌, List, [], ◌∷◌, ◌++◌, length, Bool, true, false, nat_lt, Option, Some, None, refl, sym, subst, arith}
+use Rattle.std.proofs.Common.{◌≡◌, ℕ, ◌+◌, ◌≤◌, List, [], ◌∷◌, length, Bool, true, false, nat_lt, Option, Some, None, refl, sym, subst, arith}
 use Rattle.std.specs.Prelude.{Ok, Err}
 use Rattle.ecat_frame.specs.FrameGrammar.{FrameValue}
 use Rattle.ecat_link.specs.Exchanges.{Exchange, Runs}

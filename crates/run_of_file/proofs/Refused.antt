@@ -1,8 +1,8 @@
 -- How a run ends behind each phase.
-use Rattle.std.proofs.Common.{◌≡◌, ℕ, Option, Some, None, refl, ap, ◌∙◌}
+use Rattle.std.proofs.Common.{ℕ, Option, Some, None, ap, ◌∙◌}
 use Rattle.std.specs.Prelude.{Ok, Err, option_map}
 use Rattle.master_script.specs.Kept.{Kept}
-use Rattle.master_script.specs.Script.{Call, Settle, Arm, Run, Answer}
+use Rattle.master_script.specs.Script.{Call, Settle, Arm, Run}
 use Rattle.master_script.specs.declared.step.MasterError.{MasterError}
 use Rattle.frame_pass.specs.SegmentState.{SegmentState, finished}
 use Rattle.segment_file.specs.Segment.{SegmentValue}

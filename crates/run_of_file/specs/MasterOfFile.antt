@@ -1,5 +1,5 @@
 -- The configuration of the master of a file: what it is told of its slaves, by position in frame order.
-use Rattle.std.specs.Prelude.{ℕ, List, map, slice_index_or}
+use Rattle.std.specs.Prelude.{ℕ, map, slice_index_or}
 use Rattle.cable_tree.specs.FrameOrder.{order}
 use Rattle.dc_delay.specs.declared.kind.Kind.{Kind}
 use Rattle.master_script.specs.Config.{ConfigValue}

@@ -23,13 +23,15 @@ use Rattle.run_of_file.specs.MasterOfFile.{master_of}
 use Rattle.run_of_file.specs.RunOfFile.{RunEnd}
 use Rattle.run_schedule.specs.Answers.{answer_for}
 use Rattle.run_schedule.specs.Honest.{IsRefusedForLoss}
-use Rattle.run_schedule.proofs.Arming.{ArmsBy, StandsArming, StopsArming, Armed, after_arms}
-use Rattle.run_schedule.proofs.Ends.{ended, refused_at_end, never_spent, step_asked}
-use Rattle.run_schedule.proofs.Following.{IsLed, HasGone}
-use Rattle.run_schedule.proofs.Numbers.{in_step, in_phase}
+use Rattle.script_tries.specs.Arming.{ArmsBy, StandsArming, StopsArming, Armed}
+use Rattle.script_tries.proofs.Arming.{after_arms}
+use Rattle.run_numbers.proofs.Ends.{ended, refused_at_end, never_spent, step_asked}
+use Rattle.run_numbers.proofs.Following.{IsLed, HasGone}
+use Rattle.run_numbers.proofs.Numbers.{in_step, in_phase}
 use Rattle.run_schedule.proofs.Settled.{BeginsArming}
-use Rattle.run_schedule.proofs.Tries.{Reached, begins}
-use Rattle.run_schedule.proofs.Walking.{IsNext, walk}
+use Rattle.script_tries.specs.Reached.{Reached}
+use Rattle.script_tries.proofs.Tries.{begins}
+use Rattle.run_numbers.proofs.Walking.{IsNext, walk}
 
 arms_of : (lost : ℕ → _) (begin : ℕ) (all : List Step) (p : Progress) (o : Option Refusal) (s : Phase) → o ≡ None → s ≡ Arming → ArmsBy lost begin all p o s → Reached lost begin all p.todo (p.drifts + 1) p.tries
 arms_of lost begin all p (Some r) s x y h = absurd cc

@@ -30,10 +30,11 @@ use Rattle.run_of_file.specs.RunOfFile.{RunEnd, turns, frames_given, commissione
 use Rattle.run_of_file.proofs.InRange.{as_many_kinds}
 use Rattle.run_schedule.specs.Answers.{answer_for}
 use Rattle.run_schedule.specs.Honest.{TellsKinds, IsRefusedForLoss}
-use Rattle.run_schedule.proofs.Commissioning.{Asks, Done, Stops, StandsBy, Stands, steps_known, beginning_stands, after_stands}
-use Rattle.run_schedule.proofs.Ends.{ended, refused_at_end, never_spent, step_asked}
-use Rattle.run_schedule.proofs.Numbers.{in_phase, starts_in_step}
-use Rattle.run_schedule.proofs.Walking.{IsNext, walk}
+use Rattle.script_tries.specs.Commissioning.{Asks, Done, Stops, StandsBy, Stands, steps_known}
+use Rattle.script_tries.proofs.Commissioning.{beginning_stands, after_stands}
+use Rattle.run_numbers.proofs.Ends.{ended, refused_at_end, never_spent, step_asked}
+use Rattle.run_numbers.proofs.Numbers.{in_phase, starts_in_step}
+use Rattle.run_numbers.proofs.Walking.{IsNext, walk}
 
 nothing_sent : (cfg : ConfigValue) → progress cfg [] ≡ beginning cfg
 unfolding progress

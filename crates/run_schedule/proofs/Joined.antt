@@ -17,8 +17,8 @@ use Rattle.run_schedule.specs.Answers.{answer_for}
 use Rattle.run_schedule.specs.Honest.{HasHonestReplies}
 use Rattle.run_schedule.proofs.ArmingRun.{arm_answers, arm_done}
 use Rattle.run_schedule.proofs.Commissioned.{has_commissioned, commission_answers, known_clocks}
-use Rattle.run_schedule.proofs.Ends.{ended}
-use Rattle.run_schedule.proofs.Following.{IsLed, Followed, on, off, followed, led_on}
+use Rattle.run_numbers.proofs.Ends.{ended}
+use Rattle.run_numbers.proofs.Following.{IsLed, Followed, on, off, followed, led_on}
 use Rattle.run_schedule.proofs.Running.{run_answers}
 use Rattle.run_schedule.proofs.Settled.{BeginsArming, settle_answers, settle_done}
 

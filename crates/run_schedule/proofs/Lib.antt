@@ -1,17 +1,6 @@
-pub mod Stepping
-pub mod Tries
-pub mod Numbers
-pub mod Walking
-pub mod Replies
-pub mod Commissioning
-pub mod Settling
-pub mod Arming
-pub mod Ends
 pub mod Commissioned
-pub mod Following
 pub mod Settled
 pub mod ArmingRun
 pub mod Running
 pub mod Joined
-pub mod Lengths
 pub mod Shape

@@ -22,11 +22,12 @@ use Rattle.lost_step.specs.LostStep.{loses}
 use Rattle.run_of_file.specs.MasterOfFile.{master_of}
 use Rattle.run_of_file.specs.RunOfFile.{RunEnd}
 use Rattle.run_schedule.specs.Honest.{IsRefusedForLoss}
-use Rattle.run_schedule.proofs.Settling.{AllLost, Settles, SettlesBy, StandsSettling, after_settles}
-use Rattle.run_schedule.proofs.Ends.{ended, refused_at_end, never_spent}
-use Rattle.run_schedule.proofs.Following.{IsLed, HasGone}
-use Rattle.run_schedule.proofs.Numbers.{in_step, in_phase}
-use Rattle.run_schedule.proofs.Walking.{IsNext, walk}
+use Rattle.script_tries.specs.Settling.{AllLost, Settles, SettlesBy, StandsSettling}
+use Rattle.script_tries.proofs.Settling.{after_settles}
+use Rattle.run_numbers.proofs.Ends.{ended, refused_at_end, never_spent}
+use Rattle.run_numbers.proofs.Following.{IsLed, HasGone}
+use Rattle.run_numbers.proofs.Numbers.{in_step, in_phase}
+use Rattle.run_numbers.proofs.Walking.{IsNext, walk}
 
 settles_of : (lost : ℕ → _) (cfg : ConfigValue) (ss : List SlaveWords) (p : Progress) (o : Option Refusal) → o ≡ None → SettlesBy lost cfg ss p o → Settles lost cfg ss p
 settles_of lost cfg ss p (Some r) x h = absurd cc

@@ -19,11 +19,11 @@ use Rattle.run_of_file.specs.RunOfFile.{RunEnd, frames_given, commissioned, sett
 use Rattle.run_schedule.specs.Honest.{HasHonestReplies}
 use Rattle.run_schedule.proofs.ArmingRun.{arm_done, master_first}
 use Rattle.run_schedule.proofs.Commissioned.{commission_came}
-use Rattle.run_schedule.proofs.Ends.{ended}
-use Rattle.run_schedule.proofs.Following.{HasGone, Followed, on, off, followed}
+use Rattle.run_numbers.proofs.Ends.{ended}
+use Rattle.run_numbers.proofs.Following.{HasGone, Followed, on, off, followed}
 use Rattle.run_schedule.proofs.Joined.{is_commissioned, is_settled, is_armed}
-use Rattle.run_schedule.proofs.Lengths.{IsBehind, stays_behind}
-use Rattle.run_schedule.proofs.Numbers.{in_step}
+use Rattle.run_numbers.proofs.Lengths.{IsBehind, stays_behind}
+use Rattle.run_numbers.proofs.Numbers.{in_step}
 
 some_same : {X : Type 0} {x y : X} → Some x ≡ Some y → x ≡ y
 some_same e = cc

@@ -1,3 +1,2 @@
-pub mod OnTheWay
 pub mod Honest
 pub mod Answers

@@ -1,36 +1,27 @@
 //! Laws over the definitions alone, for proofs of the layers above. They speak of any legal segment.
 
-ghost use Rattle.std.specs.Prelude.{◌≡◌, ℕ, ◌+◌, ◌*◌, ◌≤◌, List, Some, Ok, true, false, length};
-ghost use Rattle.ecat_link.specs.Exchanges.{Exchange, Runs};
-ghost use Rattle.frame_pass.specs.SegmentState.{SegmentState, segment_step};
+ghost use Rattle.std.specs.Prelude.{◌≡◌, ℕ, ◌+◌, ◌*◌, ◌≤◌, Some, Ok, true, false, length};
 ghost use Rattle.master_script.specs.Config.{settle_frames};
-ghost use Rattle.master_script.specs.Scripted.{AreScripted};
-ghost use Rattle.master_script.specs.Progress.{progress};
 ghost use Rattle.segment_file.specs.Legal.{IsLegal};
 ghost use Rattle.segment_file.specs.Segment.{SegmentValue};
 ghost use Rattle.segment_shape.specs.declared.loss_row.Phase.TheVariants as phase;
-ghost use Rattle.segment_start.specs.Start.{started_segment};
 ghost use Rattle.run_of_file.specs.MasterOfFile.{master_of};
 ghost use Rattle.lost_step.specs.LostStep.{clock_positions, commission_steps, loses, lost_step_of};
 ghost use Rattle.run_of_file.specs.RunOfFile.{RunEnd, armed, commissioned, frames_given, ran, settled};
 ghost use Rattle.run_schedule.specs.Answers.{answer_for};
 ghost use Rattle.run_schedule.specs.Honest.{HasHonestReplies};
-ghost use Rattle.run_schedule.specs.OnTheWay.{StandsAfter};
-
-/// Wherever scripted exchanges have led the segment, its numbers are those of the script, and each sending was at its number times the
-/// frame period.
-pub fn segments_keep_step()
-    ensures { (s : SegmentValue) (es : List Exchange) (t : SegmentState) → IsLegal s → AreScripted (master_of s) (frames_given s) es
-        → Runs segment_step (Some (started_segment s)) es (Some t) → StandsAfter s (progress (master_of s) es).sent (progress (master_of s) es).drifts t }
-{}
 
 /// Where replies are honest, the list of losses alone tells how each phase ends: it is refused with the first step of commissioning, or
 /// behind it of arming, that loses its three tries, and else it goes well.
 pub fn answers_follow_losses()
-    ensures commissioned { (s : SegmentValue) (run : RunEnd) → IsLegal s → HasHonestReplies s → commissioned s ≡ Some run → run.answer ≡ answer_for (lost_step_of s false) }
-    ensures settled { (s : SegmentValue) (run : RunEnd) → IsLegal s → HasHonestReplies s → settled s ≡ Some run → run.answer ≡ answer_for (lost_step_of s false) }
-    ensures armed { (s : SegmentValue) (run : RunEnd) → IsLegal s → HasHonestReplies s → armed s ≡ Some run → run.answer ≡ answer_for (lost_step_of s true) }
-    ensures ran { (s : SegmentValue) (run : RunEnd) → IsLegal s → HasHonestReplies s → ran s ≡ Some run → run.answer ≡ answer_for (lost_step_of s true) }
+    ensures commissioned { (s : SegmentValue) (run : RunEnd) → IsLegal s → HasHonestReplies s → commissioned s ≡ Some run
+        → run.answer ≡ answer_for (lost_step_of s false) }
+    ensures settled { (s : SegmentValue) (run : RunEnd) → IsLegal s → HasHonestReplies s → settled s ≡ Some run
+        → run.answer ≡ answer_for (lost_step_of s false) }
+    ensures armed { (s : SegmentValue) (run : RunEnd) → IsLegal s → HasHonestReplies s → armed s ≡ Some run
+        → run.answer ≡ answer_for (lost_step_of s true) }
+    ensures ran { (s : SegmentValue) (run : RunEnd) → IsLegal s → HasHonestReplies s → ran s ≡ Some run
+        → run.answer ≡ answer_for (lost_step_of s true) }
 {}
 
 /// Where replies are honest, a phase that ends with Ok has sent so many frames: commissioning and arming one to three for each of their
@@ -38,11 +29,14 @@ pub fn answers_follow_losses()
 pub fn phases_send_so_many()
     ensures commissioned { (s : SegmentValue) (run : RunEnd) → IsLegal s → HasHonestReplies s → commissioned s ≡ Some run → run.answer ≡ Ok tt
         → (length (commission_steps s) ≤ length run.exchanges) × (length run.exchanges ≤ 3 * length (commission_steps s)) }
-    ensures settled { (s : SegmentValue) (first run : RunEnd) → IsLegal s → HasHonestReplies s → commissioned s ≡ Some first → settled s ≡ Some run → run.answer ≡ Ok tt
+    ensures settled { (s : SegmentValue) (first run : RunEnd) → IsLegal s → HasHonestReplies s → commissioned s ≡ Some first
+        → settled s ≡ Some run → run.answer ≡ Ok tt
         → length run.exchanges ≡ length first.exchanges + settle_frames (master_of s) }
-    ensures armed { (s : SegmentValue) (first run : RunEnd) → IsLegal s → HasHonestReplies s → settled s ≡ Some first → armed s ≡ Some run → run.answer ≡ Ok tt
+    ensures armed { (s : SegmentValue) (first run : RunEnd) → IsLegal s → HasHonestReplies s → settled s ≡ Some first → armed s ≡ Some run
+        → run.answer ≡ Ok tt
         → (length first.exchanges + length (clock_positions s) ≤ length run.exchanges) × (length run.exchanges ≤ length first.exchanges + 3 * length (clock_positions s)) }
-    ensures ran { (s : SegmentValue) (first run : RunEnd) → IsLegal s → HasHonestReplies s → armed s ≡ Some first → ran s ≡ Some run → run.answer ≡ Ok tt
+    ensures ran { (s : SegmentValue) (first run : RunEnd) → IsLegal s → HasHonestReplies s → armed s ≡ Some first → ran s ≡ Some run
+        → run.answer ≡ Ok tt
         → length run.exchanges ≡ length first.exchanges + frames_given s }
 {}
 

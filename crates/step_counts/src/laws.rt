@@ -19,11 +19,13 @@ pub fn steps_are_counted()
     ensures arming { (s : SegmentValue) → IsLegal s → length (arm_steps s) ≡ clocks s.rows }
 {}
 
-/// Exchanges of which none is lost use one to three numbers each, one more each than are lost; and those behind them begin where they
-/// end. Where one is lost, all before it came, and its three tries are lost.
+/// Exchanges that all come back use one to three numbers each: one for the try that comes, and one for each that is lost. Those behind
+/// them begin at the next number. Where an exchange does not come back, all before it do, and its three tries are lost.
 pub fn exchanges_use_numbers()
     ensures few { (lost : ℕ → Bool) (a b : ℕ) (steps : List Step) → asked lost a steps ≡ Ok b → (a + length steps ≤ b) × (b ≤ a + 3 * length steps) }
-    ensures used { (lost : ℕ → Bool) (a used : ℕ) (steps : List Step) → asked lost a steps ≡ Ok (a + used) → used ≡ length steps + lost_numbers lost a used }
-    ensures behind { (lost : ℕ → Bool) (a b : ℕ) (steps others : List Step) → asked lost a steps ≡ Ok b → asked lost a (steps ++ others) ≡ asked lost b others }
+    ensures used { (lost : ℕ → Bool) (a used : ℕ) (steps : List Step) → asked lost a steps ≡ Ok (a + used)
+        → used ≡ length steps + lost_numbers lost a used }
+    ensures behind { (lost : ℕ → Bool) (a b : ℕ) (steps others : List Step) → asked lost a steps ≡ Ok b
+        → asked lost a (steps ++ others) ≡ asked lost b others }
     ensures lost { (lost : ℕ → Bool) (a : ℕ) (steps : List Step) (step : Step) → asked lost a steps ≡ Err step → IsLostAt lost a steps step }
 {}

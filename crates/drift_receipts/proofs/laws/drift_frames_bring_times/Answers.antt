@@ -1,14 +1,12 @@
-use Rattle.drift_receipts.proofs.Bringing.{clock_brought, other_brought, reference_brought}
+use Rattle.drift_receipts.proofs.Bringing.{frame_brings, one_received}
 use Rattle.drift_receipts.proofs.First.{behind_reference}
-use Rattle.drift_receipts.proofs.States.{leaves, reaches}
+use Rattle.drift_receipts.proofs.States.{leaves}
 use Rattle.drift_receipts.proofs.laws.drift_frames_bring_times.Goals as goal
 
 pub returns : goal.returns
 returns c = record {
-  sent = λ s t e legal f. leaves s legal t e f;
-  reach = λ s t e legal f. reaches s legal t e f;
-  clock = λ s t e p r v w m n legal f reference low clock is timing at_r timing_r. clock_brought s legal t e f r reference p v w m n low clock is timing at_r timing_r;
-  reference = λ s t e r v legal f reference is. reference_brought s legal t e f r reference v is;
-  others = λ s t e p v legal f clockless is. other_brought s legal t e f p v clockless is;
+  sent = λ s k t e legal frame. leaves s legal k t e frame;
+  receipts = λ s k p r t e v w legal frame reference is at_r. frame_brings s legal k t e frame r reference w at_r p v is;
+  often = λ s first p r legal clock other. one_received s legal first p r clock other;
   behind = λ s p r legal reference low clock other. behind_reference s legal r reference p low clock other;
 }

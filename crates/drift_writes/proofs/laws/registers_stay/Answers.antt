@@ -1,8 +1,9 @@
-use Rattle.std.proofs.Common.{inl, inr, arith}
+use Rattle.std.proofs.Common.{ℕ, inl, inr, arith}
+use Rattle.drift_writes.specs.Untouched.{AreLasting, IsUntouched}
 use Rattle.frame_pass.specs.PlainRegisters.{IsPlain}
-use Rattle.drift_writes.proofs.Frames.{times_untouched}
-use Rattle.drift_writes.proofs.Runs.{armed_holds, ran_holds, settled_holds}
-use Rattle.drift_writes.proofs.Slaves.{plain_held, times_held}
+use Rattle.drift_writes.proofs.Frames.{delay_untouched, offset_untouched, speed_untouched, times_untouched}
+use Rattle.drift_writes.proofs.Slaves.{IsHeldOn, plain_held, times_held}
+use Rattle.drift_writes.proofs.Runs.{armed_holds, ran_holds, settled_holds, whole_holds}
 use Rattle.drift_writes.proofs.laws.registers_stay.Goals as goal
 
 offset_plain : IsPlain 0x0920 8
@@ -14,13 +15,18 @@ delay_plain = record { ports = inl (omega arith); unit = inl (omega arith); diff
 speed_plain : IsPlain 0x0930 2
 speed_plain = record { ports = inl (omega arith); unit = inl (omega arith); difference = inl (omega arith); status = inr (omega arith); stamp = inr (omega arith) }
 
+-- what lasts is held on, and untouched
+held : (at n : ℕ) → AreLasting at n → IsHeldOn at n × IsUntouched at n
+held at n (inl time) = (times_held at n time, times_untouched at n time)
+held at n (inr plain) = (plain_held at n plain.0, plain.1)
+
 pub returns : goal.returns
 returns c = record {
-  settled = λ s first run at n legal was is plain far. settled_holds s legal at n (plain_held at n plain) far first run was is;
-  armed = λ s first run at n legal was is plain far. armed_holds s legal at n (plain_held at n plain) far first run was is;
-  ran = λ s first run at n legal was is plain far. ran_holds s legal at n (plain_held at n plain) far first run was is;
-  offset = offset_plain;
-  delay = delay_plain;
-  speed = speed_plain;
-  receive_times = λ s first run at n legal was is time. ran_holds s legal at n (times_held at n time) (times_untouched at n time) first run was is;
+  settled = λ s first run at n legal was is lasting. let h = held at n lasting in settled_holds s legal at n h.0 h.1 first run was is;
+  armed = λ s first run at n legal was is lasting. let h = held at n lasting in armed_holds s legal at n h.0 h.1 first run was is;
+  ran = λ s first run at n legal was is lasting. let h = held at n lasting in ran_holds s legal at n h.0 h.1 first run was is;
+  whole = λ s first run at n legal was is lasting. let h = held at n lasting in whole_holds s legal at n h.0 h.1 first run was is;
+  offset = inr (offset_plain, offset_untouched);
+  delay = inr (delay_plain, delay_untouched);
+  speed = inr (speed_plain, speed_untouched);
 }

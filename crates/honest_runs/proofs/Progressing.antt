@@ -4,10 +4,15 @@ use Rattle.std.specs.List.{AllByRecursion, range_with_len}
 use Rattle.esc_regs.specs.declared.clock_kind.ClockKind.{ClockKind}
 use Rattle.frame_pass.specs.SlaveState.{Slave}
 use Rattle.master_script.specs.Progress.{Progress, Commissioning}
+use Rattle.master_script.specs.declared.step.Refusal.{Refusal}
+use Rattle.master_script.specs.declared.step.Refusal.TheVariants.{Lost}
 use Rattle.master_script.specs.declared.step.Step.{Step}
 use Rattle.master_script.specs.declared.step.Step.TheVariants.{Count, Identify}
 use Rattle.honest_replies.specs.Told.{words_of, AreInOrder, Knows, IsMeant}
-use Rattle.honest_runs.specs.Refusals.{IsLoss}
+
+-- a refusal for want of replies: no try of a step came back
+abbrev pub IsLoss : Refusal → Type 0
+IsLoss r = (step : Step) × (r ≡ Lost step)
 
 -- the steps up to the judgement, from the one that identifies the slave at position j on
 abbrev pub identifying : ℕ → ℕ → List Step

@@ -25,8 +25,8 @@ use Rattle.segment_start.specs.Start.{started_segment}
 use Rattle.run_of_file.specs.MasterOfFile.{master_of}
 use Rattle.run_of_file.specs.RunOfFile.{frames_given}
 use Rattle.run_of_file.proofs.InRange.{as_many_kinds, some_rows, few_rows, lock_in_few, loss_run_few, frames_few}
-use Rattle.run_schedule.specs.OnTheWay.{StandsAfter}
-use Rattle.run_schedule.proofs.Stepping.{NumbersOn, step_numbers, drift_frame, commission_frame}
+use Rattle.run_numbers.specs.OnTheWay.{StandsAfter}
+use Rattle.run_numbers.proofs.Stepping.{NumbersOn, step_numbers, drift_frame, commission_frame}
 
 -- exchanges, cut in two
 pub runs_split : {S : Type 0} (step : StepOf S) (es fs : List Exchange) (s u : S) → Runs step (Some s) (es ++ fs) (Some u) → (t : S) × Runs step (Some s) es (Some t) × Runs step (Some t) fs (Some u)

@@ -10,9 +10,9 @@ use Rattle.segment_file.specs.Segment.{SegmentValue}
 use Rattle.segment_file.specs.Legal.{IsLegal}
 use Rattle.run_of_file.specs.MasterOfFile.{master_of}
 use Rattle.run_of_file.specs.RunOfFile.{RunEnd, frames_given}
-use Rattle.run_schedule.proofs.Following.{IsLed, HasGone}
-use Rattle.run_schedule.proofs.Numbers.{in_step, in_phase}
-use Rattle.run_schedule.proofs.Walking.{walk}
+use Rattle.run_numbers.proofs.Following.{IsLed, HasGone}
+use Rattle.run_numbers.proofs.Numbers.{in_step, in_phase}
+use Rattle.run_numbers.proofs.Walking.{walk}
 
 -- a call that sends drift frames
 abbrev pub IsDrifting : Call → Type 0

@@ -9,17 +9,9 @@ use Rattle.dc_topology.specs.declared.error.TopologyError.{TopologyError}
 use Rattle.master_script.specs.Judged.{judged, judged_by, miscounted, counters}
 use Rattle.master_script.specs.Slaves.{SlaveWords, is_clock, is_measuring, judgement, judged_tree, judged_clocks, tree_told}
 use Rattle.master_script.specs.declared.step.Refusal.{Refusal}
-use Rattle.master_script.specs.declared.step.Refusal.TheVariants.{Lost, Counter, Reply, Topology, NoReference, Unmeasurable}
+use Rattle.master_script.specs.declared.step.Refusal.TheVariants.{Counter, Topology, NoReference, Unmeasurable}
 use Rattle.master_script.specs.declared.step.Step.{Step}
-
--- what holds where a step was lost; of other refusals nothing is said
-abbrev pub IfLost : Refusal → (Step → Type 0) → Type 0
-IfLost (Lost step) P = P step
-IfLost (Counter step e k) P = Unit {0}
-IfLost (Reply step at) P = Unit {0}
-IfLost (Topology e) P = Unit {0}
-IfLost NoReference P = Unit {0}
-IfLost (Unmeasurable k) P = Unit {0}
+use Rattle.script_tries.specs.IfLost.{IfLost}
 
 some_same : {X : Type 0} {x y : X} → Some x ≡ Some y → x ≡ y
 some_same e = cc

@@ -13,7 +13,7 @@ use Rattle.segment_file.specs.Segment.{SegmentValue}
 use Rattle.segment_start.specs.Start.{started_segment}
 use Rattle.run_of_file.specs.MasterOfFile.{master_of}
 use Rattle.run_of_file.specs.RunOfFile.{RunEnd, turns, frames_given, call_run, next_call, followed_by}
-use Rattle.run_schedule.proofs.Ends.{ended}
+use Rattle.run_numbers.proofs.Ends.{ended}
 
 -- The exchanges of a run are scripted, and led the segment where it stands.
 pub record IsLed (s : SegmentValue) (run : RunEnd) : Type 0 where

@@ -1,6 +1,6 @@
 -- Commissioning: which step its exchanges have come to, by the list of losses.
 use Rattle.std.proofs.Common.{◌≡◌, ℕ, ◌+◌, ◌*◌, ◌≤◌, Bool, true, false, cond, eqb, ◌==◌, List, [], ◌∷◌, ◌++◌, length, Option, Some, None, is_none, Result, Ok, Err, refl, sym, ap, subst, ◌∙◌, arith}
-use Rattle.std.proofs.lemmas.Bool.Decides.{nat_tests}
+use Rattle.std.specs.List.{AllByRecursion}
 use Rattle.ecat_frame.specs.FrameGrammar.{FrameValue}
 use Rattle.ecat_link.specs.Exchanges.{Exchange}
 use Rattle.master_script.specs.Config.{ConfigValue}
@@ -14,65 +14,20 @@ use Rattle.master_script.specs.declared.step.Refusal.TheVariants.{Lost}
 use Rattle.master_script.specs.declared.step.Step.{Step}
 use Rattle.master_script.specs.declared.step.Step.TheVariants.{Identify}
 use Rattle.master_script.proofs.Todo.{one_identify, identifies, later_none, learned_reference}
-use Rattle.lost_step.specs.LostStep.{asked}
-use Rattle.run_schedule.proofs.Replies.{IfLost, judged_other, judgement_other}
-use Rattle.run_schedule.proofs.Tries.{Reached, begins, missed_once, missed_thrice, came, goes_on, all_came}
-
--- the steps of commissioning that are known: those behind the judgement follow from the slaves
-abbrev pub steps_known : ConfigValue → List SlaveWords → Option ℕ → List Step
-steps_known cfg ss None = first_steps cfg
-steps_known cfg ss (Some r) = first_steps cfg ++ later_steps ss
-
-abbrev pub known_of : ConfigValue → Progress → List Step
-known_of cfg p = steps_known cfg p.words.slaves p.words.reference
-
--- behind the judgement no slave is identified
-abbrev pub IsLate : Option ℕ → List Step → Type 0
-IsLate None todo = Unit {0}
-IsLate (Some r) todo = identifies todo ≡ 0
-
--- a step is asked
-pub record Asks (lost : ℕ → Bool) (cfg : ConfigValue) (p : Progress) : Type 0 where
-  pub drifts : p.drifts ≡ 0
-  pub reached : Reached lost 1 (known_of cfg p) p.todo (p.sent + 1) p.tries
-  pub late : IsLate p.words.reference p.todo
-
--- all steps came
-pub record Done (lost : ℕ → Bool) (cfg : ConfigValue) (p : Progress) : Type 0 where
-  pub drifts : p.drifts ≡ 0
-  pub all : asked lost 1 (first_steps cfg ++ later_steps p.words.slaves) ≡ Ok (p.sent + 1)
-  pub judged : (r : ℕ) × (p.words.reference ≡ Some r)
-
--- it was refused
-pub record Stops (lost : ℕ → Bool) (cfg : ConfigValue) (p : Progress) (r : Refusal) : Type 0 where
-  pub lost_step : IfLost r (λ step. (more : List Step) → asked lost 1 (known_of cfg p ++ more) ≡ Err step)
-  pub few : p.sent ≤ 3 * length (known_of cfg p)
-
-abbrev pub StandsBy : (ℕ → Bool) → ConfigValue → Progress → Option Refusal → Phase → Type 0
-StandsBy lost cfg p (Some r) s = Stops lost cfg p r
-StandsBy lost cfg p None Commissioning = Asks lost cfg p
-StandsBy lost cfg p None Settling = Done lost cfg p
-StandsBy lost cfg p None Arming = Unit {0}
-StandsBy lost cfg p None Running = Unit {0}
-
-abbrev pub Stands : (ℕ → Bool) → ConfigValue → Progress → Type 0
-Stands lost cfg p = StandsBy lost cfg p p.refused p.phase
+use Rattle.script_tries.specs.Commissioning.{Asks, IsLate, IsOther, Stands, StandsBy, known_of, steps_known}
+use Rattle.script_tries.specs.Reached.{Reached}
+use Rattle.script_tries.proofs.Replies.{judged_other, judgement_other}
+use Rattle.script_tries.proofs.Tries.{begins, missed_once, missed_thrice, came, goes_on, all_came, not_three, is_three}
 
 pub beginning_stands : (lost : ℕ → Bool) (cfg : ConfigValue) → Stands lost cfg (beginning cfg)
 beginning_stands lost cfg = record { drifts = refl; reached = begins lost 1 (first_steps cfg); late = tt }
-
-not_three : (m : ℕ) → eqb (m + 1) 3 ≡ false → m ≤ 2 → m + 1 ≤ 2
-not_three m h l = grind (arith, nat_tests)
-
-is_three : (m : ℕ) → eqb (m + 1) 3 ≡ true → m ≡ 2
-is_three m h = grind (arith, nat_tests)
 
 few_of : (lost : ℕ → Bool) (all : List Step) (step : Step) (rest : List Step) (number tries : ℕ) → Reached lost 1 all (step ∷ rest) number tries → number ≤ 3 * length all
 few_of lost all step rest number tries h = let i = h.is in let f = h.few in let m = h.most in omega (arith, i, f, m)
 
 -- what a step teaches leaves the known steps
-kept_slaves : (n : ℕ) (step : Step) (f : FrameValue) (w : Words) → one_identify step ≡ 0 → (learned n step f w).slaves ≡ w.slaves
-kept_slaves n (Identify p) f w e = absurd (omega (arith, e))
+kept_slaves : (n : ℕ) (step : Step) (f : FrameValue) (w : Words) → IsOther step → (learned n step f w).slaves ≡ w.slaves
+kept_slaves n (Identify p) f w e = absurd e
 kept_slaves n step f w e = refl
 
 known_kept : (cfg : ConfigValue) (n : ℕ) (step : Step) (rest : List Step) (f : FrameValue) (w : Words) → IsLate w.reference (step ∷ rest)
@@ -82,11 +37,20 @@ known_kept cfg n step rest f w late =
   where
     by_reference : (o : Option ℕ) → IsLate o (step ∷ rest) → steps_known cfg (learned n step f w).slaves o ≡ steps_known cfg w.slaves o
     by_reference None l = refl
-    by_reference (Some r) l = ap (λ (ss : List SlaveWords). first_steps cfg ++ later_steps ss) (kept_slaves n step f w (omega (arith, l)))
+    by_reference (Some r) l = ap (λ (ss : List SlaveWords). first_steps cfg ++ later_steps ss) (kept_slaves n step f w l.0)
 
 late_on : (o : Option ℕ) (step : Step) (rest : List Step) → IsLate o (step ∷ rest) → IsLate o rest
 late_on None step rest l = tt
-late_on (Some r) step rest l = omega (arith, l)
+late_on (Some r) step rest l = l.1
+
+-- none of the steps behind the judgement identifies a slave
+other_of : (step : Step) → one_identify step ≡ 0 → IsOther step
+other_of (Identify p) e = absurd (omega (arith, e))
+other_of step e = tt
+
+others_of : (steps : List Step) → identifies steps ≡ 0 → AllByRecursion IsOther steps
+others_of [] e = tt
+others_of (step ∷ rest) e = (other_of step (omega (arith, e)), others_of rest (omega (arith, e)))
 
 module _ (lost : ℕ → Bool) (cfg : ConfigValue) where
   -- a step is lost once more; p is counted already
@@ -118,7 +82,7 @@ module _ (lost : ℕ → Bool) (cfg : ConfigValue) where
         drifts = d;
         reached = subst (λ (k : ℕ). Reached lost 1 (first_steps cfg ++ later_steps p.words.slaves) (later_steps p.words.slaves) (p.sent + 1) k) (sym z)
             (goes_on lost 1 (first_steps cfg) (later_steps p.words.slaves) (p.sent + 1) h);
-        late = later_none p.words.slaves;
+        late = others_of (later_steps p.words.slaves) (later_none p.words.slaves);
       }))
 
   -- the last step that was known came

@@ -18,8 +18,8 @@ use Rattle.segment_file.specs.Legal.{IsLegal}
 use Rattle.run_of_file.specs.MasterOfFile.{master_of}
 use Rattle.run_of_file.specs.RunOfFile.{frames_given}
 use Rattle.lost_step.specs.LostStep.{loses}
-use Rattle.run_schedule.proofs.Numbers.{InStep, step_in_step, few_sent, some_kinds, frame_phase, frames_of}
-use Rattle.run_schedule.proofs.Stepping.{step_back}
+use Rattle.run_numbers.proofs.Numbers.{InStep, step_in_step, few_sent, some_kinds, frame_phase, frames_of}
+use Rattle.run_numbers.proofs.Stepping.{step_back}
 
 -- the number of the next frame of a call among those of its kind
 abbrev pub IsNext : Call → Progress → ℕ → Type 0

@@ -1,6 +1,5 @@
 -- Arming: which step its exchanges have come to, by the list of losses.
-use Rattle.std.proofs.Common.{◌≡◌, ℕ, ◌+◌, ◌*◌, ◌≤◌, Bool, true, false, cond, eqb, ◌==◌, List, [], ◌∷◌, ◌++◌, length, Option, Some, None, is_none, Ok, Err, refl, sym, ap, subst, ◌∙◌, arith}
-use Rattle.std.proofs.lemmas.Bool.Decides.{nat_tests}
+use Rattle.std.proofs.Common.{◌≡◌, ℕ, ◌+◌, ◌*◌, ◌≤◌, Bool, true, false, cond, eqb, ◌==◌, List, [], ◌∷◌, length, Option, Some, None, is_none, refl, sym, ap, subst, ◌∙◌, arith}
 use Rattle.ecat_frame.specs.FrameGrammar.{FrameValue}
 use Rattle.ecat_link.specs.Exchanges.{Exchange}
 use Rattle.master_script.specs.Config.{ConfigValue}
@@ -10,34 +9,10 @@ use Rattle.master_script.specs.Steps.{expected}
 use Rattle.master_script.specs.declared.step.Refusal.{Refusal}
 use Rattle.master_script.specs.declared.step.Refusal.TheVariants.{Lost}
 use Rattle.master_script.specs.declared.step.Step.{Step}
-use Rattle.lost_step.specs.LostStep.{asked}
-use Rattle.run_schedule.proofs.Replies.{IfLost, judged_other}
-use Rattle.run_schedule.proofs.Tries.{Reached, missed_once, missed_thrice, came, all_came}
-
--- it was refused, with so many drift frames sent
-pub record StopsArming (lost : ℕ → Bool) (begin : ℕ) (all : List Step) (p : Progress) (r : Refusal) : Type 0 where
-  pub lost_step : IfLost r (λ step. (more : List Step) → asked lost begin (all ++ more) ≡ Err step)
-  pub few : p.drifts + 1 ≤ begin + 3 * length all
-
--- all steps came
-pub record Armed (lost : ℕ → Bool) (begin : ℕ) (all : List Step) (p : Progress) : Type 0 where
-  pub came : asked lost begin all ≡ Ok (p.drifts + 1)
-
-abbrev pub ArmsBy : (ℕ → Bool) → ℕ → List Step → Progress → Option Refusal → Phase → Type 0
-ArmsBy lost begin all p (Some r) s = StopsArming lost begin all p r
-ArmsBy lost begin all p None Commissioning = Unit {0}
-ArmsBy lost begin all p None Settling = Unit {0}
-ArmsBy lost begin all p None Arming = Reached lost begin all p.todo (p.drifts + 1) p.tries
-ArmsBy lost begin all p None Running = Armed lost begin all p
-
-abbrev pub StandsArming : (ℕ → Bool) → ℕ → List Step → Progress → Type 0
-StandsArming lost begin all p = ArmsBy lost begin all p p.refused p.phase
-
-not_three : (m : ℕ) → eqb (m + 1) 3 ≡ false → m ≤ 2 → m + 1 ≤ 2
-not_three m h l = grind (arith, nat_tests)
-
-is_three : (m : ℕ) → eqb (m + 1) 3 ≡ true → m ≡ 2
-is_three m h = grind (arith, nat_tests)
+use Rattle.script_tries.specs.Arming.{ArmsBy, StandsArming}
+use Rattle.script_tries.specs.Reached.{Reached}
+use Rattle.script_tries.proofs.Replies.{judged_other}
+use Rattle.script_tries.proofs.Tries.{missed_once, missed_thrice, came, all_came, not_three, is_three}
 
 module _ (lost : ℕ → Bool) (begin : ℕ) (all : List Step) where
   few_of : (step : Step) (rest : List Step) (number tries : ℕ) → Reached lost begin all (step ∷ rest) number tries → number + 1 ≤ begin + 3 * length all

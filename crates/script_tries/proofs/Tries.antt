@@ -1,21 +1,12 @@
 -- Exchanges of a phase, try by try, by the numbers of its frames alone.
-use Rattle.std.proofs.Common.{◌≡◌, ℕ, ◌+◌, ◌*◌, ◌<◌, ◌≤◌, Bool, true, false, List, [], ◌∷◌, ◌++◌, length, length-append, Some, None, refl, sym, ap, subst, ◌∙◌, append_assoc, below_more, arith}
+use Rattle.std.proofs.Common.{◌≡◌, ℕ, ◌+◌, ◌<◌, ◌≤◌, Bool, true, false, eqb, List, [], ◌∷◌, ◌++◌, length-append, Some, None, refl, sym, ap, subst, ◌∙◌, append_assoc, below_more, arith}
+use Rattle.std.proofs.lemmas.Bool.Decides.{nat_tests}
 use Rattle.std.proofs.lemmas.List.{append-nil}
 use Rattle.std.specs.Prelude.{Ok, Err}
 use Rattle.master_script.specs.declared.step.Step.{Step}
 use Rattle.lost_step.specs.LostStep.{behind_tries, asked}
 use Rattle.lost_step.proofs.Asking.{none_comes, behind_came}
-
--- The exchanges of these steps began at a number, and the steps that are left are still to be asked. The next frame has this number, and
--- the first of them was lost so often; and what the exchanges come to is what those that are left come to.
-pub record Reached (lost : ℕ → Bool) (begin : ℕ) (all todo : List Step) (number tries : ℕ) : Type 0 where
-  pub first : ℕ
-  pub is : first + tries ≡ number
-  pub few : tries ≤ 2
-  pub gone : (k : ℕ) → k < tries → lost (first + k) ≡ true
-  pub same : (more : List Step) → asked lost begin (all ++ more) ≡ asked lost first (todo ++ more)
-  pub most : first + 3 * length todo ≤ begin + 3 * length all
-  pub least : begin + length all ≤ first + length todo
+use Rattle.script_tries.specs.Reached.{Reached}
 
 -- before the first frame
 pub begins : (lost : ℕ → Bool) (begin : ℕ) (all : List Step) → Reached lost begin all all begin 0
@@ -104,3 +95,10 @@ all_came lost begin all number h =
     let i = h.is in
     let e : h.first ≡ number = omega (arith, i) in
     ap (asked lost begin) (sym (append-nil all)) ∙ h.same [] ∙ all_asked lost h.first ∙ ap (λ (n : ℕ). Ok n) e
+
+-- a third try, or one before it
+pub not_three : (m : ℕ) → eqb (m + 1) 3 ≡ false → m ≤ 2 → m + 1 ≤ 2
+not_three m h l = grind (arith, nat_tests)
+
+pub is_three : (m : ℕ) → eqb (m + 1) 3 ≡ true → m ≡ 2
+is_three m h = grind (arith, nat_tests)

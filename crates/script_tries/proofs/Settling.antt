@@ -1,5 +1,5 @@
 -- Settling: as long as no frame brought the time of the reference, all of them were lost.
-use Rattle.std.proofs.Common.{◌≡◌, ℕ, ◌+◌, ◌<◌, ◌≤◌, Bool, true, false, cond, eqb, ◌==◌, List, Option, Some, None, is_none, refl, sym, subst, ◌∙◌, arith}
+use Rattle.std.proofs.Common.{◌≡◌, ℕ, ◌+◌, ◌≤◌, Bool, true, false, cond, eqb, ◌==◌, List, Option, Some, None, is_none, refl, sym, subst, ◌∙◌, arith}
 use Rattle.std.proofs.lemmas.Bool.Decides.{nat_tests}
 use Rattle.ecat_frame.specs.FrameGrammar.{FrameValue}
 use Rattle.ecat_link.specs.Exchanges.{Exchange}
@@ -11,23 +11,8 @@ use Rattle.master_script.specs.Steps.{expected}
 use Rattle.master_script.specs.declared.step.Refusal.{Refusal}
 use Rattle.master_script.specs.declared.step.Step.{Step}
 use Rattle.master_script.specs.declared.step.Step.TheVariants.{Drift}
-use Rattle.run_schedule.proofs.Replies.{IfLost, judged_other}
-
--- so many drift frames, and all of them lost
-abbrev pub AllLost : (ℕ → Bool) → ℕ → Type 0
-AllLost lost n = (k : ℕ) → 0 < k → k ≤ n → lost k ≡ true
-
--- the slaves are those that were known when settling began
-pub record Settles (lost : ℕ → Bool) (cfg : ConfigValue) (ss : List SlaveWords) (p : Progress) : Type 0 where
-  pub slaves : p.words.slaves ≡ ss
-  pub silent : p.words.time ≡ None → AllLost lost p.drifts
-
-abbrev pub SettlesBy : (ℕ → Bool) → ConfigValue → List SlaveWords → Progress → Option Refusal → Type 0
-SettlesBy lost cfg ss p (Some r) = IfLost r (λ step. AllLost lost (settle_frames cfg))
-SettlesBy lost cfg ss p None = Settles lost cfg ss p
-
-abbrev pub StandsSettling : (ℕ → Bool) → ConfigValue → List SlaveWords → Progress → Type 0
-StandsSettling lost cfg ss p = SettlesBy lost cfg ss p p.refused
+use Rattle.script_tries.specs.Settling.{AllLost, Settles, SettlesBy, StandsSettling}
+use Rattle.script_tries.proofs.Replies.{judged_other}
 
 from_eqb : (m k : ℕ) → eqb m k ≡ true → m ≡ k
 from_eqb m k h = grind (arith, nat_tests)

@@ -1,0 +1,5 @@
+pub mod Reached
+pub mod IfLost
+pub mod Commissioning
+pub mod Settling
+pub mod Arming
