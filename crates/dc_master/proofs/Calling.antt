@@ -4,8 +4,9 @@ use Rattle.ecat_link.specs.Exchanges.{Exchange, StepOf}
 use Rattle.ecat_link.specs.Serves.{Serves}
 use Rattle.ecat_link.proofs.Serving.{serves_weaker}
 use Rattle.dc_master.specs.Inside.{kept}
-use Rattle.dc_master.specs.Places.{Asks, AtRest, HasRefused, IsFresh, IsReady, stood}
-use Rattle.dc_master.specs.declared.exchange.Counters.{Counters}
+use Rattle.dc_master.specs.Places.{AtRest, HasRefused, IsFresh, IsReady}
+use Rattle.master_steps.specs.Asking.{Asks, stood}
+use Rattle.master_steps.specs.declared.exchange.Counters.{Counters}
 use Rattle.dc_master.proofs.Calls.{armed_ends, begins_armed, begins_commissioned, begins_fresh, begins_settled, commissioned_ends, ends_as, ran_ends, refused_ends, settled_ends, stands_as}
 use Rattle.master_script.specs.Config.{ConfigValue, settle_frames}
 use Rattle.master_script.specs.Kept.{Ends, StandsFor}
@@ -33,6 +34,14 @@ module _ (cfg : ConfigValue) (before : Stage) (o : Option Refusal) (n : Counters
 
   pub run_begins : (before ≡ stage.Armed) × IsReady cfg w ds → (xs : List Exchange) → Stood xs → AtRest cfg Running n w [] xs
   run_begins h xs p = begins_armed cfg n w ds xs (stands_as cfg before stage.Armed o n w ds xs h.0 none p)
+
+-- running sends as many frames as it is given
+abbrev pub HasRun : ConfigValue → Counters → Words → ℕ → List Exchange → Type 0
+HasRun cfg k v frames xs = progress cfg xs ≡ record (stood Running k v []) { ran = frames }
+
+pub run_ends : (cfg : ConfigValue) (o : Option Refusal) (k : Counters) (v : Words) (es : List (Option ℕ)) → o ≡ None → (frames : ℕ) → IsReady cfg v es
+    → (xs : List Exchange) → HasRun cfg k v frames xs → Ends cfg (Run frames) (kept cfg stage.Ended o k v es) (Ok tt) xs
+run_ends cfg o k v es none frames ready xs b = ends_as cfg (Run frames) stage.Ended o k v es (Ok tt) xs none (ran_ends cfg k v es frames xs ready b)
 
 -- to where it ends
 module _ {S : Type 0} (step : StepOf S) (cfg : ConfigValue) (before : Stage) (o : Option Refusal) (n k : Counters) (w v : Words) (ds es : List (Option ℕ)) (s t : Option S) (none : o ≡ None) where
@@ -68,10 +77,14 @@ module _ {S : Type 0} (step : StepOf S) (cfg : ConfigValue) (before : Stage) (o 
       (arm_begins cfg before o n w ds none h)
       (λ xs b. ends_as cfg Arm stage.Armed o k v es (Ok tt) xs none (armed_ends cfg k v es xs ready b)) p
 
-  pub run_done : (before ≡ stage.Armed) × IsReady cfg w ds → (frames : ℕ) → IsReady cfg v es
-      → Serves step (script cfg (Run frames)) (AtRest cfg Running n w []) s t (λ xs. progress cfg xs ≡ record (stood Running k v []) { ran = frames })
+  pub run_stood : (before ≡ stage.Armed) × IsReady cfg w ds → (frames : ℕ) → Serves step (script cfg (Run frames)) (AtRest cfg Running n w []) s t (HasRun cfg k v frames)
+      → Serves step (script cfg (Run frames)) (StandsFor None (kept cfg before o n w ds)) s t (HasRun cfg k v frames)
+  run_stood h frames p =
+      serves_weaker step (script cfg (Run frames)) (AtRest cfg Running n w []) (StandsFor None (kept cfg before o n w ds)) (HasRun cfg k v frames) (HasRun cfg k v frames) s t
+      (run_begins cfg before o n w ds none h) (λ xs b. b) p
+
+  pub run_done : (before ≡ stage.Armed) × IsReady cfg w ds → (frames : ℕ) → IsReady cfg v es → Serves step (script cfg (Run frames)) (AtRest cfg Running n w []) s t (HasRun cfg k v frames)
       → Serves step (script cfg (Run frames)) (StandsFor None (kept cfg before o n w ds)) s t (Ends cfg (Run frames) (kept cfg stage.Ended o k v es) (Ok tt))
   run_done h frames ready p =
-      serves_weaker step (script cfg (Run frames)) (AtRest cfg Running n w []) (StandsFor None (kept cfg before o n w ds)) (λ xs. progress cfg xs ≡ record (stood Running k v []) { ran = frames }) (Ends cfg (Run frames) (kept cfg stage.Ended o k v es) (Ok tt)) s t
-      (run_begins cfg before o n w ds none h)
-      (λ xs b. ends_as cfg (Run frames) stage.Ended o k v es (Ok tt) xs none (ran_ends cfg k v es frames xs ready b)) p
+      serves_weaker step (script cfg (Run frames)) (AtRest cfg Running n w []) (StandsFor None (kept cfg before o n w ds)) (HasRun cfg k v frames) (Ends cfg (Run frames) (kept cfg stage.Ended o k v es) (Ok tt)) s t
+      (run_begins cfg before o n w ds none h) (run_ends cfg o k v es none frames ready) p

@@ -3,8 +3,9 @@ use Rattle.std.proofs.Common.{◌≡◌, ◌⊎◌, inl, inr, ℕ, ◌≤◌, na
 use Rattle.std.proofs.lemmas.Bool.Decides.{nat_tests}
 use Rattle.ecat_link.specs.Exchanges.{Exchange}
 use Rattle.dc_master.specs.Inside.{HasStage, kept}
-use Rattle.dc_master.specs.Places.{Asks, AtRest, HasRefused, IsFresh, IsReady, stood}
-use Rattle.dc_master.specs.declared.exchange.Counters.{Counters}
+use Rattle.dc_master.specs.Places.{AtRest, HasRefused, IsFresh, IsReady}
+use Rattle.master_steps.specs.Asking.{Asks, stood}
+use Rattle.master_steps.specs.declared.exchange.Counters.{Counters}
 use Rattle.dc_master.proofs.Times.{arm_any}
 use Rattle.master_script.specs.Config.{ConfigValue, settle_frames}
 use Rattle.master_script.specs.Kept.{Ends, Kept, StandsFor, given, has_delays, kept_after, kept_at, stage_by}

@@ -1,77 +1,28 @@
--- The causes of refusals.
-use Rattle.std.proofs.Common.{◌≡◌, ℕ, Bool, true, false, cond, ◌==◌, List, [], ◌∷◌, length, map, Option, Some, None, Result, Ok, Err, IfErr, refl, sym, ap, subst, ◌∙◌}
+-- The causes of refusals of a call.
+use Rattle.std.proofs.Common.{◌≡◌, ℕ, Bool, true, false, cond, List, [], ◌∷◌, length, map, Option, Some, None, Result, Ok, Err, refl, sym, ap, subst, ◌∙◌}
 use Rattle.std.specs.Prelude.{⊤}
 use Rattle.dc_bounds.specs.Weight.{flag}
 use Rattle.dc_delay.specs.Refusals.{first_timed, first_unmeasurable}
 use Rattle.dc_topology.specs.Listed.{Place}
 use Rattle.dc_topology.specs.declared.error.TopologyError.{TopologyError}
 use Rattle.ecat_frame.specs.Built.{built}
-use Rattle.ecat_frame.specs.Difference.{first_difference}
 use Rattle.ecat_frame.specs.FrameGrammar.{FrameValue, IsFrame}
-use Rattle.dc_master.specs.Places.{IsCauseAt, IsReceived}
-use Rattle.dc_master.specs.declared.exchange.Counters.{Counters}
 use Rattle.master_script.specs.Causes.{AreRefused, IsCause, IsJudgedIn, IsLostIn}
 use Rattle.master_script.specs.Config.{ConfigValue, slaves}
 use Rattle.master_script.specs.Frames.{drift_datagrams}
-use Rattle.master_script.specs.Judged.{counters, judged, judged_by, miscounted}
+use Rattle.master_script.specs.Judged.{judged}
 use Rattle.master_script.specs.Script.{Call, Commission}
 use Rattle.master_script.specs.Slaves.{SlaveWords, clocks, is_clock, is_measuring, judged_clocks, judged_tree, judgement, tree_told}
-use Rattle.master_script.specs.Steps.{expected, frame_of}
+use Rattle.master_script.specs.Steps.{expected}
 use Rattle.master_script.specs.Words.{Words, reference_of}
 use Rattle.master_script.specs.declared.step.Refusal.{Refusal}
 use Rattle.master_script.specs.declared.step.Refusal.TheVariants.{Lost, Counter, Reply, Topology, NoReference, Unmeasurable}
 use Rattle.master_script.specs.declared.step.Step.{Step}
 use Rattle.master_script.specs.declared.step.Step.TheVariants.{Drift}
+use Rattle.master_steps.specs.Asking.{IsCauseAt}
+use Rattle.master_steps.specs.declared.exchange.Counters.{Counters}
 use Rattle.dc_master.proofs.Driving.{drift_is}
-use Rattle.master_script.proofs.Replies.{counter_told, reply_told}
-
--- what is refused by a judgement names the step, and is no loss and nothing of the slaves
-abbrev OfStep : Step → Refusal → Type 0
-OfStep step (Reply q at) = q ≡ step
-OfStep step (Counter q e k) = q ≡ step
-OfStep step r = ⊥
-
-miscount_of : (step : Step) (expected counters : List ℕ) (r : Refusal) → miscounted step expected counters ≡ Some r → OfStep step r
-miscount_of step [] ks r e = absurd cc
-miscount_of step (x ∷ xs) [] r e = absurd cc
-miscount_of step (x ∷ xs) (k ∷ ks) r e = here (k == x) (miscounted step xs ks) (miscount_of step xs ks r) e
-  where
-    here : (b : Bool) (o : Option Refusal) → (o ≡ Some r → OfStep step r) → cond b o (Some (Counter step x k)) ≡ Some r → OfStep step r
-    here true o h e = h e
-    here false o h e = let s : Counter step x k ≡ r = cc in subst (λ y. OfStep step y) s refl
-
-named : (step : Step) (expected : List ℕ) (reply : FrameValue) (r : Refusal) (o : Option ℕ) → judged_by step expected reply o ≡ Some r → OfStep step r
-named step expected reply r None e = miscount_of step expected (counters reply) r e
-named step expected reply r (Some at) e = let s : Reply step at ≡ r = cc in subst (λ y. OfStep step y) s refl
-
-names : (step : Step) (expected : List ℕ) (sent reply : FrameValue) (r : Refusal) → judged step expected sent reply ≡ Some r → OfStep step r
-unfolding judged
-names step expected sent reply r e = named step expected reply r (first_difference sent reply) e
-
--- a reply that was refused is a cause
-cause_of : (cfg : ConfigValue) (w : Words) (step : Step) (reply : FrameValue) (r : Refusal) → IsFrame reply → OfStep step r
-    → judged step (expected cfg w step reply) (frame_of cfg w step) reply ≡ Some r → IsCauseAt cfg w step r
-cause_of cfg w step reply (Lost q) v n j = absurd n
-cause_of cfg w step reply (Reply q at) v n j =
-    let j' : judged step (expected cfg w step reply) (frame_of cfg w step) reply ≡ Some (Reply step at) = j ∙ ap (λ (x : Step). Some (Reply x at)) n in
-    (n, record { reply = reply; valid = v; differs = (reply_told step (expected cfg w step reply) (frame_of cfg w step) reply at).0 j' })
-cause_of cfg w step reply (Counter q e k) v n j =
-    let t = counter_told step q (expected cfg w step reply) (frame_of cfg w step) reply e k j in
-    (n, record { reply = reply; valid = v; alike = t.0; miscount = t.1 })
-cause_of cfg w step reply (Topology e) v n j = absurd n
-cause_of cfg w step reply NoReference v n j = absurd n
-cause_of cfg w step reply (Unmeasurable k) v n j = absurd n
-
-pub reply_causes : (cfg : ConfigValue) (w : Words) (step : Step) (sent reply : FrameValue) (r : Refusal) → sent ≡ frame_of cfg w step → IsFrame reply
-    → judged step (expected cfg w step reply) sent reply ≡ Some r → IsCauseAt cfg w step r
-reply_causes cfg w step sent reply r s v j =
-    let j' : judged step (expected cfg w step reply) (frame_of cfg w step) reply ≡ Some r = ap (λ f. judged step (expected cfg w step reply) f reply) (sym s) ∙ j in
-    cause_of cfg w step reply r v (names step (expected cfg w step reply) (frame_of cfg w step) reply r j') j'
-
-pub received_causes : (cfg : ConfigValue) (number : ℕ) (step : Step) (sent reply : FrameValue) (w later : Words) (r : Result (Unit {0}) Refusal) → sent ≡ frame_of cfg w step → IsFrame reply
-    → IsReceived cfg number step sent reply w later r → IfErr r (IsCauseAt cfg later step)
-received_causes cfg number step sent reply w later (Ok u) s v h = tt
-received_causes cfg number step sent reply w later (Err r) s v h = subst (λ x. IsCauseAt cfg x step r) (sym h.1) (reply_causes cfg w step sent reply r s v h.0)
+use Rattle.master_steps.proofs.Causes.{OfStep, names, reply_causes}
 
 -- the cause of a refused drift frame
 drift_by : (cfg : ConfigValue) (call : Call) (k : ℕ) (w : Words) (r : Refusal) → IsJudgedIn call k (Drift k) → OfStep (Drift k) r → IsCauseAt cfg w (Drift k) r → IsCause cfg call k w r

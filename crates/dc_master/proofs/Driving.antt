@@ -6,12 +6,13 @@ use Rattle.ecat_frame.specs.FrameGrammar.{FrameValue}
 use Rattle.ecat_link.specs.Exchanges.{Exchange, StepOf, Follows}
 use Rattle.ecat_link.specs.Serves.{Serves}
 use Rattle.ecat_link.proofs.Serving.{serves_weaker}
-use Rattle.dc_master.specs.Places.{AtRest, HasRefused, IsReady, IsTimed, one_sent, stood}
-use Rattle.dc_master.specs.declared.exchange.Counters.{Counters}
+use Rattle.dc_master.specs.Places.{AtRest, HasRefused, IsReady, IsTimed}
+use Rattle.master_steps.specs.Asking.{one_sent, stood}
+use Rattle.master_steps.specs.declared.exchange.Counters.{Counters}
 use Rattle.dc_master.proofs.Parts.{refused_part}
-use Rattle.dc_master.proofs.Shapes.{never_lost}
+use Rattle.master_steps.proofs.Shapes.{never_lost}
 use Rattle.dc_master.proofs.Times.{shown_behind}
-use Rattle.dc_master.proofs.Trying.{sent_of}
+use Rattle.master_steps.proofs.Trying.{sent_of}
 use Rattle.master_script.specs.Config.{ConfigValue, settle_frames}
 use Rattle.master_script.specs.Frames.{drift_datagrams}
 use Rattle.master_script.specs.Judged.{judged}

@@ -2,7 +2,7 @@
 use Rattle.std.proofs.Common.{◌≡◌, ℕ, List, Option, Some, None, refl}
 use Rattle.dc_master.specs.Inside.{HasStage}
 use Rattle.dc_master.specs.Made.{IsOfSlaves}
-use Rattle.dc_master.specs.declared.exchange.Counters.{Counters}
+use Rattle.master_steps.specs.declared.exchange.Counters.{Counters}
 use Rattle.master_script.specs.Causes.{AreRefused, IsCause}
 use Rattle.master_script.specs.Config.{ConfigValue}
 use Rattle.master_script.specs.Script.{Call}

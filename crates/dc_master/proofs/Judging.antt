@@ -20,7 +20,7 @@ use Rattle.dc_delay.specs.MeasuredDelay.{delay_list}
 use Rattle.master_script.specs.declared.step.Refusal.{Refusal}
 use Rattle.master_script.specs.declared.step.Refusal.TheVariants.{Lost, NoReference, Unmeasurable}
 use Rattle.master_script.specs.declared.step.Step.{Step}
-use Rattle.dc_master.proofs.Left.{flag_at}
+use Rattle.master_steps.proofs.Left.{flag_at}
 use Rattle.master_script.proofs.Trees.{tree_listed, tree_refused}
 
 module _ (ss : List ℕ) (out : List Place) (result : Result (Unit {0}) TopologyError)

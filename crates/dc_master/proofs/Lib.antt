@@ -1,8 +1,3 @@
-mod Left
-mod Miscounts
-mod Trying
-mod Shapes
-mod Received
 mod Parts
 mod Times
 mod Judging
@@ -10,7 +5,6 @@ mod Planned
 mod Driving
 mod Calls
 mod Causes
-mod Counting
 mod Making
 mod Calling
 mod Exactly

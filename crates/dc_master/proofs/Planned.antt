@@ -1,8 +1,8 @@
 -- The slaves are judged after the last Identify.
 use Rattle.std.proofs.Common.{◌≡◌, ℕ, List, [], Some, None, Ok}
 use Rattle.ecat_link.specs.Exchanges.{Exchange}
-use Rattle.dc_master.specs.Places.{Asks}
-use Rattle.dc_master.specs.declared.exchange.Counters.{Counters}
+use Rattle.master_steps.specs.Asking.{Asks}
+use Rattle.master_steps.specs.declared.exchange.Counters.{Counters}
 use Rattle.master_script.specs.Config.{ConfigValue}
 use Rattle.master_script.specs.Progress.{Commissioning, later_steps}
 use Rattle.master_script.specs.Slaves.{judgement}

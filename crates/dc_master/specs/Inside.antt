@@ -1,10 +1,10 @@
 -- How a master is kept.
 use Rattle.std.specs.Prelude.{◌≡◌, ℕ, ◌<◌, ◌≤◌, nat_lt, if◌then◌else◌, List, Option, Some, None, length}
-use Rattle.dc_master.specs.ConfigRange.{IsConfig, value_of}
-use Rattle.dc_master.specs.Known.{words_of}
+use Rattle.master_steps.specs.ConfigRange.{IsConfig, value_of}
+use Rattle.master_steps.specs.Known.{words_of}
 use Rattle.dc_master.specs.Made.{Stands}
 use Rattle.dc_master.specs.Places.{IsFresh, IsReady}
-use Rattle.dc_master.specs.declared.exchange.Counters.{Counters}
+use Rattle.master_steps.specs.declared.exchange.Counters.{Counters}
 use Rattle.dc_master.specs.declared.master.Master.TheInside.{Inside}
 use Rattle.master_script.specs.Config.{ConfigValue, settle_frames}
 use Rattle.master_script.specs.Kept.{Kept}

@@ -3,6 +3,7 @@ use Rattle.std.specs.Prelude.{◌≡◌, ℕ, ◌++◌, ⊤, List, Option, Some,
 use Rattle.ecat_link.specs.Exchanges.{Exchange, StepOf, Runs}
 use Rattle.ecat_link.specs.Serves.{Sends}
 use Rattle.master_script.specs.Kept.{Kept, StandsFor, Ends}
+use Rattle.master_script.specs.Progress.{progress}
 use Rattle.master_script.specs.Script.{Call, Answer, script}
 use Rattle.master_script.specs.Scripted.{AreScripted}
 use Rattle.master_script.specs.declared.step.MasterError.TheVariants.{Spent as SpentBefore}
@@ -11,18 +12,17 @@ use Rattle.master_script.specs.declared.step.Refusal.TheVariants.{Topology, NoRe
 use Rattle.master_script.specs.declared.step.Stage.{Stage}
 use Rattle.master_script.specs.declared.step.Stage.TheVariants.{Ended, Spent}
 
--- until `run` has ended, or any call was refused, no number of frames was given to it
-abbrev pub IsGiven : Stage → Option ℕ → Type 0
-IsGiven Ended (Some frames) = ⊤
-IsGiven Ended None = ⊥
-IsGiven Spent frames = ⊤
-IsGiven stage frames = frames ≡ None
+-- no number of frames was given to `run` until it has ended, and then as many as it has sent; behind a refusal there may be one or none
+abbrev pub IsGiven : Stage → ℕ → Option ℕ → Type 0
+IsGiven Ended ran frames = frames ≡ Some ran
+IsGiven Spent ran frames = ⊤
+IsGiven stage ran frames = frames ≡ None
 
--- Calls of the script made these exchanges, the calls of `run` among them with at most 100,000 frames, and behind them a
--- master keeps what this one keeps.
+-- Calls of the script made these exchanges, `run` among them with at most 100,000 frames, and a master that made them keeps what
+-- this one keeps.
 pub record HasMade (m : Kept) (es : List Exchange) : Type 0 where
   pub frames : Option ℕ
-  pub given : IsGiven m.stage frames
+  pub given : IsGiven m.stage (progress m.config es).ran frames
   pub scripted : AreScripted m.config 100000 es
   pub stands : StandsFor frames m es
 

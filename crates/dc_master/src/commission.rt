@@ -4,9 +4,10 @@ ghost use Rattle.dc_bounds.specs.Weight.{flag};
 ghost use Rattle.dc_delay.specs.Latched.{measures};
 ghost use Rattle.ecat_link.specs.RoseBy.{RoseBy};
 ghost use Rattle.ecat_link.specs.Serves.{Serves};
-ghost use Rattle.dc_master.specs.ConfigRange.{IsConfig, value_of};
-ghost use Rattle.dc_master.specs.Known.{words_of};
-ghost use Rattle.dc_master.specs.Places.{AfterPart, Asks, HasRoom, HasSent, IsCounted, IsFresh, IsReady};
+ghost use Rattle.master_steps.specs.ConfigRange.{IsConfig, value_of};
+ghost use Rattle.master_steps.specs.Known.{words_of};
+ghost use Rattle.dc_master.specs.Places.{AfterPart, HasRoom, HasSent, IsFresh, IsReady};
+ghost use Rattle.master_steps.specs.Asking.{Asks, IsCounted};
 ghost use Rattle.master_script.specs.Causes.{AreRefused, IsCause};
 ghost use Rattle.master_script.specs.Config.{slaves as slaves_of};
 ghost use Rattle.master_script.specs.Progress.{Arming, Commissioning, arm_steps, first_steps, later_steps};
@@ -17,13 +18,11 @@ ghost use Rattle.master_script.specs.declared.step.Refusal.TheVariants.{Lost};
 ghost use Rattle.master_script.specs.declared.step.Step.{Step as AnyStep};
 ghost use Rattle.master_script.specs.declared.step.Step.TheVariants.{Set, Times};
 
-use crate::config::Config;
-use crate::exchange::Notes;
 use crate::judgement::{judge_slaves, measure_delays};
-use crate::steps::take;
 use dc_topology::Shape;
 use ecat_link::Link;
 use master_script::{Refusal, Step};
+use master_steps::{Config, Notes, take};
 
 /// Commissions the slaves.
 pub(crate) fn commission<L: Link>(

@@ -4,9 +4,10 @@ ghost use Rattle.ecat_frame.specs.Built.{built};
 ghost use Rattle.ecat_frame.specs.FrameGrammar.{IsFrame};
 ghost use Rattle.ecat_link.specs.RoseBy.{RoseBy};
 ghost use Rattle.ecat_link.specs.Serves.{Serves};
-ghost use Rattle.dc_master.specs.ConfigRange.{IsConfig, value_of};
-ghost use Rattle.dc_master.specs.Known.{words_of};
-ghost use Rattle.dc_master.specs.Places.{AfterRun, AfterSettle, AtRest, HasRoom, HasSent, IsCounted, IsReady, IsTimed, sizes};
+ghost use Rattle.master_steps.specs.ConfigRange.{IsConfig, value_of};
+ghost use Rattle.master_steps.specs.Known.{words_of};
+ghost use Rattle.dc_master.specs.Places.{AfterRun, AfterSettle, AtRest, HasRoom, HasSent, IsReady, IsTimed};
+ghost use Rattle.master_steps.specs.Asking.{IsCounted};
 ghost use Rattle.master_script.specs.Causes.{IsCause};
 ghost use Rattle.master_script.specs.Config.{settle_frames as settle_frames_of};
 ghost use Rattle.master_script.specs.Frames.{drift_datagrams};
@@ -18,13 +19,11 @@ ghost use Rattle.master_script.specs.Words.{reference_of};
 ghost use Rattle.master_script.specs.declared.step.Refusal.TheVariants.{Lost};
 ghost use Rattle.master_script.specs.declared.step.Step.TheVariants.{Drift};
 
-use crate::config::Config;
-use crate::exchange::{Notes, send};
-use crate::replies::{low_in, miscounted};
 use ecat_frame::Frame;
 use ecat_link::Link;
 use master_frames::drift_frame;
 use master_script::{Refusal, Step};
+use master_steps::{Config, Notes, judge_drift, low_in, send};
 use wrap_time::extend;
 
 /// How many drift frames settling sends.
@@ -125,19 +124,4 @@ pub(crate) fn run<L: Link>(
         }
     }
     Ok(())
-}
-
-// Why the reply to the drift frame of this number is refused, if it is.
-fn judge_drift(number: u32, clocks: u16, sent: &Frame, reply: &Frame) -> Option<Refusal>
-    ensures is { result ≡ judged (Drift number) (clocks ∷ []) sent.now reply.now }
-    ensures alike { result ≡ None → sizes reply.now ≡ sizes sent.now }
-    ensures valid { IsFrame reply.now }
-{
-    let step = Step::Drift(number);
-    sent.in_grammar();
-    reply.in_grammar();
-    if let Some(at) = sent.first_difference(reply) {
-        return Some(Refusal::Reply(step, at));
-    }
-    miscounted(step, &[clocks], reply)
 }

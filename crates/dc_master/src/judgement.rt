@@ -5,18 +5,17 @@ ghost use Rattle.dc_bounds.specs.Weight.{flag};
 ghost use Rattle.dc_delay.specs.Refusals.{first_timed, first_unmeasurable};
 ghost use Rattle.dc_delay.specs.ShapeRows.{positions};
 ghost use Rattle.dc_delay.specs.Latched.{measures};
-ghost use Rattle.dc_master.specs.ConfigRange.{value_of};
-ghost use Rattle.dc_master.specs.Known.{words_of};
+ghost use Rattle.master_steps.specs.ConfigRange.{value_of};
+ghost use Rattle.master_steps.specs.Known.{words_of};
 ghost use Rattle.master_script.specs.Config.{slaves};
 ghost use Rattle.master_script.specs.Slaves.{clocks, is_clock, is_measuring, judged_clocks, judgement, measuring, tree_told};
 ghost use Rattle.master_script.specs.Words.{delays_of};
 
-use crate::config::Config;
-use crate::learned::{Learned, SlaveWords};
 use arrayvec::ArrayVec;
 use dc_delay::{DelayError, DelayList, delays, judge};
 use dc_topology::{Shape, TopologyError, topology};
 use master_script::Refusal;
+use master_steps::{Config, Learned, SlaveWords};
 
 /// The position of the reference, which is the first clock. `shape` becomes the tree of the slaves.
 #[tactic(auto, unfolding(master_script::specs::Slaves::judgement))]

@@ -3,23 +3,16 @@
 //! data sheet, Section I, distributed clocks).
 //!
 //! What it sends, how it judges what comes back, and how each of its calls ends is the script of
-//! `master_script`. Each call says that it made the exchanges that the script wants, and that the master
+//! `master_script`, whose steps `master_steps` takes. Each call says that it made the exchanges that the script wants, and that the master
 //! keeps afterwards what the script gives over them. The master knows no wire and no file, and takes no
 //! memory after it was made.
 #![tactic(auto)]
 
 mod commission;
-mod config;
 mod drift;
-mod exchange;
-mod frames;
 mod judgement;
-mod learned;
 mod master;
-mod replies;
-mod start_time;
-mod steps;
 
-pub use config::Config;
 pub use master::Master;
 pub use master_script::{MasterError, Refusal, Stage, Step, SyncPlan};
+pub use master_steps::Config;

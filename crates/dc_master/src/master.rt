@@ -1,8 +1,7 @@
 ghost use Rattle.std.specs.Prelude.{◌≡◌, ◌↔◌, ◌-◌, ◌≤◌, ◌⊎◌, ℕ, [], Err, IfOk, IsSome, None, OnErr, OnOk, Some, slice_index_or};
 ghost use Rattle.ecat_link.specs.RoseBy.{RoseBy};
 ghost use Rattle.ecat_link.specs.Serves.{Serves};
-ghost use Rattle.dc_master.specs.ConfigRange.{IsConfig, value_of};
-ghost use Rattle.dc_master.specs.Idle.{IsIdle};
+ghost use Rattle.master_steps.specs.ConfigRange.{IsConfig, value_of};
 ghost use Rattle.dc_master.specs.Made.{IsOfSlaves, IsSpent, Makes, Stands};
 ghost use Rattle.master_script.specs.Causes.{AreRefused, IsCause};
 ghost use Rattle.master_script.specs.Config.{settle_frames as settle_frames_of};
@@ -13,15 +12,12 @@ ghost use Rattle.master_script.specs.declared.step.Refusal.TheVariants.{Lost};
 ghost use Rattle.master_script.specs.declared.step.Stage.TheVariants as stage;
 
 use crate::commission::{arm, commission};
-use crate::config::Config;
 use crate::drift::{run, settle, settle_frames};
-use crate::exchange::{Counters, Notes};
-use crate::learned::Learned;
-use crate::start_time::start;
 use arrayvec::ArrayVec;
 use dc_base::NoMemory;
 use ecat_link::Link;
 use master_script::{MasterError, Refusal, Stage};
+use master_steps::{Config, Counters, Learned, Notes, start};
 use std::alloc::Global;
 use std::marker::Model;
 
@@ -129,15 +125,16 @@ impl Master {
         }
     }
 
-    /// Counts and identifies the slaves, measures their delays, and sets the clocks. `Lost` comes where a frame
-    /// was lost three times; `Topology`, `NoReference` and `Unmeasurable` after the last slave told what it is.
+    /// Counts and identifies the slaves, measures their delays, and sets the clocks. It is refused with `Lost` where the
+    /// frame of a step was lost three times; with `Reply` where one came back with a byte changed that may not, and with
+    /// `Counter` where one came back with another working counter than is expected; with `Topology`, `NoReference` or
+    /// `Unmeasurable` where the last slave told what it is and the slaves list no tree, have no clock, or cannot all be measured.
     pub fn commission<L: Link>(&mut self, link: &mut L) -> Result<(), MasterError>
         requires { (self.old.stage ≡ stage.Fresh) ⊎ (self.old.stage ≡ stage.Spent) }
         ensures config { self.new.config ≡ self.old.config }
-        ensures spent { (r : _) → self.old.refusal ≡ Some r → IsIdle L.state L.lost self.old self.new link.old link.new × (result ≡ Err (Spent r)) }
+        ensures spent { (r : _) → self.old.refusal ≡ Some r → (self.new ≡ self.old) × (link.new ≡ link.old) × (result ≡ Err (Spent r)) }
         ensures spent_before { (r : _) → result ≡ Err (Spent r) → self.old.refusal ≡ Some r }
         ensures spent_exactly { (self.old.stage ≡ stage.Spent) ↔ IsSpent result }
-        ensures untouched { self.old.stage ≡ stage.Spent → link.new ≡ link.old }
         ensures serves { self.old.refusal ≡ None → Serves L.step (script self.old.config Commission)
             (StandsFor None self.old) (L.state link.old) (L.state link.new) (Ends self.old.config Commission self.new result) }
         ensures made { self.old.refusal ≡ None → Makes L.step Commission self.old self.new (L.state link.old) (L.state link.new) result }
@@ -151,7 +148,8 @@ impl Master {
         ensures lost { (step : _) → result ≡ Err (Refused (Lost step)) → RoseBy 3 (L.lost link.old) (L.lost link.new) }
         ensures caused { (r : _) → result ≡ Err (Refused r) → IsCause self.old.config Commission self.new.drifts self.new.words r }
         ensures judged { (r : _) → self.old.refusal ≡ None → AreRefused self.old.config self.new.words.slaves r → result ≡ Err (Refused r) }
-        ensures judged_exactly { (r : _) → IsOfSlaves r → (result ≡ Err (Refused r)) ↔ ((self.old.stage ≡ stage.Fresh) × AreRefused self.old.config self.new.words.slaves r) }
+        ensures judged_exactly { (r : _) → IsOfSlaves r
+            → (result ≡ Err (Refused r)) ↔ ((self.old.stage ≡ stage.Fresh) × AreRefused self.old.config self.new.words.slaves r) }
     {
         if let Some(refusal) = self.refusal {
             return Err(MasterError::Spent(refusal));
@@ -169,14 +167,15 @@ impl Master {
         }
     }
 
-    /// Lets the clocks settle, by `lock_in + loss_run + 1` drift frames. `Lost` comes where all of them were lost.
+    /// Lets the clocks settle, by `lock_in + loss_run + 1` drift frames. It is refused with `Lost` where all of them were
+    /// lost; with `Reply` or `Counter` where one came back with a byte changed that may not, or with another working counter
+    /// than the number of clocks.
     pub fn settle<L: Link>(&mut self, link: &mut L) -> Result<(), MasterError>
         requires { (self.old.stage ≡ stage.Commissioned) ⊎ (self.old.stage ≡ stage.Spent) }
         ensures config { self.new.config ≡ self.old.config }
-        ensures spent { (r : _) → self.old.refusal ≡ Some r → IsIdle L.state L.lost self.old self.new link.old link.new × (result ≡ Err (Spent r)) }
+        ensures spent { (r : _) → self.old.refusal ≡ Some r → (self.new ≡ self.old) × (link.new ≡ link.old) × (result ≡ Err (Spent r)) }
         ensures spent_before { (r : _) → result ≡ Err (Spent r) → self.old.refusal ≡ Some r }
         ensures spent_exactly { (self.old.stage ≡ stage.Spent) ↔ IsSpent result }
-        ensures untouched { self.old.stage ≡ stage.Spent → link.new ≡ link.old }
         ensures serves { self.old.refusal ≡ None → Serves L.step (script self.old.config Settle)
             (StandsFor None self.old) (L.state link.old) (L.state link.new) (Ends self.old.config Settle self.new result) }
         ensures made { self.old.refusal ≡ None → Makes L.step Settle self.old self.new (L.state link.old) (L.state link.new) result }
@@ -206,14 +205,15 @@ impl Master {
         }
     }
 
-    /// Arms the SYNC unit of each clock. `Lost` comes where a frame was lost three times.
+    /// Arms the SYNC unit of each clock. It is refused with `Lost` where the frame of a step was lost three times; with
+    /// `Reply` or `Counter` where one came back with a byte changed that may not, or with another working counter than is
+    /// expected.
     pub fn arm<L: Link>(&mut self, link: &mut L) -> Result<(), MasterError>
         requires { (self.old.stage ≡ stage.Settled) ⊎ (self.old.stage ≡ stage.Spent) }
         ensures config { self.new.config ≡ self.old.config }
-        ensures spent { (r : _) → self.old.refusal ≡ Some r → IsIdle L.state L.lost self.old self.new link.old link.new × (result ≡ Err (Spent r)) }
+        ensures spent { (r : _) → self.old.refusal ≡ Some r → (self.new ≡ self.old) × (link.new ≡ link.old) × (result ≡ Err (Spent r)) }
         ensures spent_before { (r : _) → result ≡ Err (Spent r) → self.old.refusal ≡ Some r }
         ensures spent_exactly { (self.old.stage ≡ stage.Spent) ↔ IsSpent result }
-        ensures untouched { self.old.stage ≡ stage.Spent → link.new ≡ link.old }
         ensures serves { self.old.refusal ≡ None → Serves L.step (script self.old.config Arm)
             (StandsFor None self.old) (L.state link.old) (L.state link.new) (Ends self.old.config Arm self.new result) }
         ensures made { self.old.refusal ≡ None → Makes L.step Arm self.old self.new (L.state link.old) (L.state link.new) result }
@@ -243,15 +243,16 @@ impl Master {
         }
     }
 
-    /// Keeps the clocks together by so many drift frames, at most 100,000. A lost one is no refusal.
+    /// Keeps the clocks together by so many drift frames, at most 100,000. A lost one is no refusal. It is refused with
+    /// `Reply` or `Counter` where one came back with a byte changed that may not, or with another working counter than the
+    /// number of clocks.
     pub fn run<L: Link>(&mut self, link: &mut L, frames: u32) -> Result<(), MasterError>
         requires stage { (self.old.stage ≡ stage.Armed) ⊎ (self.old.stage ≡ stage.Spent) }
         requires few { frames ≤ 100000 }
         ensures config { self.new.config ≡ self.old.config }
-        ensures spent { (r : _) → self.old.refusal ≡ Some r → IsIdle L.state L.lost self.old self.new link.old link.new × (result ≡ Err (Spent r)) }
+        ensures spent { (r : _) → self.old.refusal ≡ Some r → (self.new ≡ self.old) × (link.new ≡ link.old) × (result ≡ Err (Spent r)) }
         ensures spent_before { (r : _) → result ≡ Err (Spent r) → self.old.refusal ≡ Some r }
         ensures spent_exactly { (self.old.stage ≡ stage.Spent) ↔ IsSpent result }
-        ensures untouched { self.old.stage ≡ stage.Spent → link.new ≡ link.old }
         ensures serves { self.old.refusal ≡ None → Serves L.step (script self.old.config (Run frames))
             (StandsFor None self.old) (L.state link.old) (L.state link.new) (Ends self.old.config (Run frames) self.new result) }
         ensures made { self.old.refusal ≡ None → Makes L.step (Run frames) self.old self.new (L.state link.old) (L.state link.new) result }

@@ -3,7 +3,7 @@ use Rattle.std.proofs.Common.{ℕ, ◌<◌, List, [], ◌∷◌, ◌++◌, lengt
 use Rattle.std.proofs.lemmas.List.{length_push}
 use Rattle.std.proofs.lemmas.List.Elements.{All-push}
 use Rattle.dc_delay.specs.declared.kind.Kind.{Kind}
-use Rattle.dc_master.specs.ConfigRange.{IsKind, IsPlan}
+use Rattle.master_steps.specs.ConfigRange.{IsKind, IsPlan}
 use Rattle.master_cases.specs.Slaves.{AreSlaves}
 use Rattle.master_script.specs.declared.plan.SyncPlan.{SyncPlan}
 

@@ -2,7 +2,7 @@
 use Rattle.std.specs.Prelude.{◌≡◌, ℕ, ◌≤◌, List, length}
 use Rattle.std.specs.List.{All}
 use Rattle.dc_delay.specs.declared.kind.Kind.{Kind}
-use Rattle.dc_master.specs.ConfigRange.{IsKind, IsPlan}
+use Rattle.master_steps.specs.ConfigRange.{IsKind, IsPlan}
 use Rattle.master_script.specs.declared.plan.SyncPlan.{SyncPlan}
 
 -- at most 256, each with tP and tF and a plan within their ranges

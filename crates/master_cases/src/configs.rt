@@ -1,5 +1,5 @@
 ghost use Rattle.std.specs.Prelude.{◌≤◌, IfOk, length};
-ghost use Rattle.dc_master.specs.ConfigRange.{IsConfig, IsKind, IsPlan, value_of};
+ghost use Rattle.master_steps.specs.ConfigRange.{IsConfig, IsKind, IsPlan, value_of};
 ghost use Rattle.master_cases.specs.Slaves.{AreSlaves};
 
 use anyhow::{Context, bail};

@@ -1,5 +1,5 @@
 -- What the judgement after the last Identify says of the slaves.
-use Rattle.std.proofs.Common.{◌≡◌, ◌↔◌, ℕ, Bool, true, false, cond, List, [], ◌∷◌, length, map, filter, Option, Some, None, Result, Ok, Err, refl, sym, ap, subst, ◌∙◌}
+use Rattle.std.proofs.Common.{◌≡◌, ◌≢◌, ◌↔◌, ℕ, Bool, true, false, cond, List, [], ◌∷◌, length, map, filter, Option, Some, None, Result, Ok, Err, refl, sym, ap, subst, ◌∙◌}
 use Rattle.std.specs.List.{find}
 use Rattle.dc_bounds.specs.Weight.{flag}
 use Rattle.dc_delay.specs.Refusals.{first_timed, first_unmeasurable}
@@ -25,6 +25,14 @@ found_none p (y ∷ ys) e = by_test (p y) e (found_none p ys)
   where
     by_test : (b : Bool) → cond b (Some y) (find p ys) ≡ None → (find p ys ≡ None → filter p ys ≡ []) → cond b (y ∷ filter p ys) (filter p ys) ≡ []
     by_test true e go = absurd cc
+    by_test false e go = go e
+
+first_found : (p : ℕ → Bool) (xs : List ℕ) (x : ℕ) (rest : List ℕ) → filter p xs ≡ x ∷ rest → find p xs ≡ Some x
+first_found p [] x rest e = absurd cc
+first_found p (y ∷ ys) x rest e = by_test (p y) e (first_found p ys x rest)
+  where
+    by_test : (b : Bool) → cond b (y ∷ filter p ys) (filter p ys) ≡ x ∷ rest → (filter p ys ≡ x ∷ rest → find p ys ≡ Some x) → cond b (Some y) (find p ys) ≡ Some x
+    by_test true e go = let s : y ≡ x = cc in ap (λ (z : ℕ). Some z) s
     by_test false e go = go e
 
 none_found : (p : ℕ → Bool) (xs : List ℕ) (o : Option ℕ) → find p xs ≡ o → filter p xs ≡ [] → o ≡ None
@@ -73,15 +81,21 @@ no_clock_judged ss hung e =
     )
 
 -- a slave that cannot be measured
-unmeasurable_by : (a b : Option ℕ) (k : ℕ) → judged_clocks a b ≡ Err (Unmeasurable k) → b ≡ Some k
-unmeasurable_by None b k h = absurd cc
-unmeasurable_by (Some x) None k h = absurd cc
-unmeasurable_by (Some x) (Some y) k h = cc
+unmeasurable_by : (a b : Option ℕ) (k : ℕ) → (judged_clocks a b ≡ Err (Unmeasurable k)) ↔ ((a ≢ None) × (b ≡ Some k))
+unmeasurable_by None b k = (λ h. absurd cc, λ h. absurd (h.0 refl))
+unmeasurable_by (Some x) None k = (λ h. absurd cc, λ h. absurd (let z = h.1 in cc))
+unmeasurable_by (Some x) (Some y) k = (λ h. (λ e. absurd cc, cc), λ h. let z = h.1 in cc)
 
-pub unmeasurable_judged : (ss : List SlaveWords) (hung : List Place) (k : ℕ) → tree_told ss ≡ Ok hung → judgement ss ≡ Err (Unmeasurable k) → first_unmeasurable hung (flag (map is_measuring ss)) ≡ Some k
+pub unmeasurable_judged : (ss : List SlaveWords) (hung : List Place) (k : ℕ) → tree_told ss ≡ Ok hung
+    → (judgement ss ≡ Err (Unmeasurable k)) ↔ ((clocks ss ≢ []) × (first_unmeasurable hung (flag (map is_measuring ss)) ≡ Some k))
 unfolding judgement
-unmeasurable_judged ss hung k e h =
-    unmeasurable_by (first_timed hung (flag (map is_clock ss))) (first_unmeasurable hung (flag (map is_measuring ss))) k (rw e at h)
+unmeasurable_judged ss hung k e =
+    let f = flag (map is_clock ss) in
+    let first = first_clock ss hung (all_of ss hung e) in
+    let by = unmeasurable_by (first_timed hung f) (first_unmeasurable hung (flag (map is_measuring ss))) k in (
+      λ h. let g = by.0 (rw e at h) in (λ none. g.0 (first ∙ none_found f (positions (length ss)) (find f (positions (length ss))) refl none), g.1),
+      λ h. rw e (by.1 (λ none. h.0 (found_none f (positions (length ss)) (sym first ∙ none)), h.1)),
+    )
 
 -- the reference
 reference_by : (ss : List SlaveWords) (r : Result (List Place) TopologyError) (x : ℕ) → HasLength (length ss) r → judged_tree ss r ≡ Ok x
@@ -94,11 +108,24 @@ reference_by ss (Ok hung) x l h = let g = both (first_timed hung (flag (map is_c
     both (Some y) None h = (cc, refl)
     both (Some y) (Some z) h = absurd cc
 
-pub reference_judged : (ss : List SlaveWords) (x : ℕ) → judgement ss ≡ Ok x
+judged_reference : (ss : List SlaveWords) (x : ℕ) → judgement ss ≡ Ok x
     → (hung : List Place) × (rest : List ℕ) × (tree_told ss ≡ Ok hung) × (clocks ss ≡ x ∷ rest) × (first_unmeasurable hung (flag (map is_measuring ss)) ≡ None)
 unfolding judgement
-reference_judged ss x j =
+judged_reference ss x j =
     let g = reference_by ss (tree_told ss) x (tree_length ss) j in
     let first = first_clock ss g.0 (all_of ss g.0 g.1) in
     let f = found_first (flag (map is_clock ss)) (positions (length ss)) x (sym first ∙ g.2) in
     (g.0, f.0, g.1, f.1, g.3)
+
+pub reference_judged : (ss : List SlaveWords) (x : ℕ)
+    → (judgement ss ≡ Ok x) ↔ ((hung : List Place) × (rest : List ℕ) × (tree_told ss ≡ Ok hung) × (clocks ss ≡ x ∷ rest)
+    × (first_unmeasurable hung (flag (map is_measuring ss)) ≡ None))
+unfolding judgement
+reference_judged ss x = (
+  judged_reference ss x,
+  λ h.
+      let f = flag (map is_clock ss) in
+      let first = first_clock ss h.0 (all_of ss h.0 h.2) in
+      let found = first_found f (positions (length ss)) x h.1 h.3 in
+      rw (h.2, first ∙ found, h.4) refl,
+)

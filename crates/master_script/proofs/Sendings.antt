@@ -29,7 +29,7 @@ later_length ss =
 
 some_arm : (ss : List SlaveWords) (x : ℕ) → judgement ss ≡ Ok x → 0 < length (arm_steps ss)
 some_arm ss x j =
-    let g = reference_judged ss x j in
+    let g = (reference_judged ss x).0 j in
     let e = length-map (clocks ss) Arm in
     let l : length (clocks ss) ≡ length (x ∷ g.1) = ap (λ (cs : List ℕ). length cs) g.3 in
     omega (arith, e, l)

@@ -1,12 +1,16 @@
 -- What a stage says of the rest that is kept.
-use Rattle.std.proofs.Common.{◌≡◌, ◌≢◌, ◌↔◌, ℕ, ◌<◌, Bool, true, false, cond, ltb, ◌==◌, List, [], ◌∷◌, length, map, IsSome, Option, Some, None, refl, sym, ap, subst, ◌∙◌, arith}
+use Rattle.std.proofs.Common.{◌≡◌, ◌≢◌, ◌↔◌, ℕ, ◌<◌, ◌≤◌, Bool, true, false, cond, if◌then◌else◌, not, ◌&&◌, is_some, ltb, ◌==◌, List, [], ◌∷◌, length, map, slice_index_or, IsSome, Option, Some, None, refl, sym, ap, subst, ◌∙◌, arith}
 use Rattle.std.specs.List.{list_any}
 use Rattle.std.proofs.lemmas.Bool.Decides.{nat_tests}
+use Rattle.std.proofs.lemmas.List.{get_or_past, length-map}
 use Rattle.ecat_link.specs.Exchanges.{Exchange}
+use Rattle.cable_tree.specs.Row.{Row}
+use Rattle.cable_tree.specs.declared.port.Port.{Port}
 use Rattle.dc_bounds.specs.Weight.{flag}
 use Rattle.dc_delay.specs.Latched.{laps, measures}
-use Rattle.dc_delay.specs.ShapeRows.{rows_of}
-use Rattle.dc_delay.proofs.Listing.{listed}
+use Rattle.dc_delay.specs.MeasuredDelay.{delay_list}
+use Rattle.dc_delay.specs.ShapeRows.{positions, rows_of}
+use Rattle.dc_delay.proofs.Listing.{listed, other_entry, timed_entry}
 use Rattle.master_script.specs.Config.{ConfigValue, settle_frames}
 use Rattle.master_script.specs.Kept.{kept_after, is_times, has_delays, stage_by, stage_in, run_stage}
 use Rattle.master_script.specs.Progress.{Phase, Commissioning, Settling, Arming, Running, Progress, progress}
@@ -138,3 +142,49 @@ kept_reference cfg frames es some a b = (behind_commissioning cfg frames es some
 pub kept_delays : (cfg : ConfigValue) (frames : Option ℕ) (es : List Exchange) → 0 < length cfg.kinds → (kept_after cfg frames es).stage ≢ Fresh → (kept_after cfg frames es).stage ≢ Spent → length (kept_after cfg frames es).delays ≡ length cfg.kinds
 unfolding kept_after
 kept_delays cfg frames es some a b = (behind_commissioning cfg frames es some a b).delays
+
+-- which entries of the delays there are
+below : (m k : ℕ) → ltb m k ≡ true → m < k
+below m k h = grind (arith, nat_tests)
+
+beyond : (m k : ℕ) → ltb m k ≡ false → k ≤ m
+beyond m k h = grind (arith, nat_tests)
+
+not_some : (o : Option ℕ) → o ≡ None → IsSome o → ⊥
+not_some None e i = cc
+not_some (Some x) e i = cc
+
+marked : (rows : List Row) (measures timed : ℕ → Bool) (laps : ℕ → Port → ℕ) (n i : ℕ) (b : Bool) → i < n → timed i ≡ b
+    → IsSome (slice_index_or (delay_list rows measures timed laps (positions n)) i None) ↔ (timed i ≡ true)
+marked rows measures timed laps n i true low e = (λ h. e, λ h. rw (timed_entry rows measures timed laps n i low e) refl)
+marked rows measures timed laps n i false low e =
+    (λ h. absurd (not_some _ (other_entry rows measures timed laps n i low e) h), λ h. absurd (let z : false ≡ true = sym e ∙ h in cc))
+
+entries : (cfg : ConfigValue) (w : Words) (i : ℕ) (b : Bool) → length (hung_of w) ≡ length w.slaves → ltb i (length w.slaves) ≡ b
+    → IsSome (slice_index_or (delays_of cfg w) i None) ↔ (flag (map is_clock w.slaves) i ≡ true)
+unfolding delays_of
+entries cfg w i true l t =
+    let timed = flag (map is_clock w.slaves) in
+    let low = below i (length w.slaves) t in
+    marked (rows_of (hung_of w) cfg.kinds) (measures w.latches) timed (laps w.latches) (length (hung_of w)) i (timed i) (omega (arith, low, l)) refl
+entries cfg w i false l t =
+    let ds = delays_of cfg w in
+    let many = listed (rows_of (hung_of w) cfg.kinds) (measures w.latches) (flag (map is_clock w.slaves)) (laps w.latches) (length (hung_of w)) in
+    let past = beyond i (length w.slaves) t in
+    let same = length-map w.slaves is_clock in
+    let none : slice_index_or ds i None ≡ None = get_or_past ds i None (omega (arith, many, l, past)) in
+    let unmarked : flag (map is_clock w.slaves) i ≡ false = get_or_past (map is_clock w.slaves) i false (omega (arith, same, past)) in
+    (λ h. absurd (not_some (slice_index_or ds i None) none h), λ h. absurd (let z : false ≡ true = sym unmarked ∙ h in cc))
+
+entries_by : (cfg : ConfigValue) (p : Progress) (o : Option ℕ) (b : Bool) (i : ℕ) → KnownBy (length cfg.kinds) p o → cond (is_some o && b) (delays_of cfg p.words) [] ≢ []
+    → IsSome (slice_index_or (cond (is_some o && b) (delays_of cfg p.words) []) i None) ↔ (flag (map is_clock p.words.slaves) i ≡ true)
+entries_by cfg p None b i k d = absurd (d refl)
+entries_by cfg p (Some r) false i k d = absurd (d refl)
+entries_by cfg p (Some r) true i k d = entries cfg p.words i (ltb i (length p.words.slaves)) (hung_length p.words.slaves r k.is) refl
+
+pub entries_told : (cfg : ConfigValue) (frames : Option ℕ) (es : List Exchange) (i : ℕ) → 0 < length cfg.kinds → (kept_after cfg frames es).delays ≢ []
+    → IsSome (slice_index_or (kept_after cfg frames es).delays i None) ↔ (flag (map is_clock (kept_after cfg frames es).words.slaves) i ≡ true)
+unfolding kept_after
+entries_told cfg frames es i some d =
+    let p = progress cfg es in
+    entries_by cfg p p.words.reference (not (list_any is_times p.todo)) i (progress_holds cfg es some).known d

@@ -35,7 +35,7 @@ asks_next cfg p (step ∷ rest) = sends cfg p step
 abbrev pub drifts_next : ConfigValue → Progress → Next Answer
 drifts_next cfg p = sends cfg p (Drift (p.drifts + 1))
 
--- a call sends in its own phase, and ends with Ok behind it
+-- A call sends in its own phase, and ends with Ok in every other: behind its own, since a master makes no call ahead of it.
 abbrev pub next_in : ConfigValue → Progress → Call → Phase → Next Answer
 next_in cfg p Commission Commissioning = asks_next cfg p p.todo
 next_in cfg p Settle Settling = drifts_next cfg p

@@ -2,7 +2,7 @@
 //! matter of claims that depend on values, which no law can take: there the lemmas of `proofs/Asks.antt`,
 //! `proofs/Drifts.antt` and `proofs/Ends.antt` are what a layer above cites.
 
-ghost use Rattle.std.specs.Prelude.{◌≡◌, ◌≢◌, ◌↔◌, ℕ, ◌+◌, ◌*◌, ◌<◌, ◌≤◌, List, [], ◌∷◌, ◌++◌, length, map, Option, Some, None, Ok, Err, IsSome, slice_get};
+ghost use Rattle.std.specs.Prelude.{◌≡◌, ◌≢◌, ◌↔◌, ℕ, ◌+◌, ◌*◌, ◌<◌, ◌≤◌, List, [], ◌∷◌, ◌++◌, length, map, Option, Some, None, Ok, Err, IsSome, slice_get, slice_index_or, true};
 ghost use Rattle.dc_bounds.specs.Weight.{flag};
 ghost use Rattle.dc_delay.specs.Refusals.{first_unmeasurable};
 ghost use Rattle.dc_topology.specs.Listed.{Lists, Place};
@@ -24,7 +24,7 @@ ghost use Rattle.master_script.specs.ListedTree.{tree_of};
 ghost use Rattle.master_script.specs.Progress.{Arming, Commissioning, Running, Settling, arm_steps, progress};
 ghost use Rattle.master_script.specs.Script.{Arm, Call, Commission, Run, Settle, script};
 ghost use Rattle.master_script.specs.Scripted.{AreScripted, IsLimited};
-ghost use Rattle.master_script.specs.Slaves.{SlaveWords, clocks, is_measuring, judgement, measuring, tree_told};
+ghost use Rattle.master_script.specs.Slaves.{SlaveWords, clocks, is_clock, is_measuring, judgement, measuring, tree_told};
 ghost use Rattle.master_script.specs.Stages.{HasDrifts};
 ghost use Rattle.master_script.specs.StaysKept.{StaysKept};
 ghost use Rattle.master_script.specs.Steps.{datagrams_of, frame_of};
@@ -53,8 +53,8 @@ pub fn kept_stays_kept()
 {}
 
 /// What the stage says of the rest that is kept. A master is spent exactly where it was refused. Behind
-/// commissioning there are a reference and an entry of the delays for each position. The start is there
-/// from the first frame of arming on.
+/// commissioning there are a reference and an entry of the delays for each position. Where there are delays,
+/// those of the clocks are known and no others. The start is there from the first frame of arming on.
 pub fn stages_tell_the_rest()
     ensures spent { (cfg : ConfigValue) (frames : Option ℕ) (es : List Exchange)
         → ((kept_after cfg frames es).stage ≡ Spent) ↔ IsSome (kept_after cfg frames es).refusal }
@@ -64,6 +64,10 @@ pub fn stages_tell_the_rest()
     ensures delays { (cfg : ConfigValue) (frames : Option ℕ) (es : List Exchange) → 0 < slaves cfg
         → (kept_after cfg frames es).stage ≢ Fresh → (kept_after cfg frames es).stage ≢ Spent
         → length (kept_after cfg frames es).delays ≡ slaves cfg }
+    ensures entries { (cfg : ConfigValue) (frames : Option ℕ) (es : List Exchange) (position : ℕ) → 0 < slaves cfg
+        → (kept_after cfg frames es).delays ≢ []
+        → IsSome (slice_index_or (kept_after cfg frames es).delays position None)
+        ↔ (flag (map is_clock (kept_after cfg frames es).words.slaves) position ≡ true) }
     ensures drifts { (cfg : ConfigValue) (frames : Option ℕ) (es : List Exchange) → 0 < slaves cfg
         → HasDrifts cfg (kept_after cfg frames es).drifts (kept_after cfg frames es).stage }
     ensures start { (cfg : ConfigValue) (frames : Option ℕ) (es : List Exchange)
@@ -146,16 +150,16 @@ pub fn drift_frames_follow_commissioning()
 {}
 
 /// `Reply` comes exactly where the reply differs from what was sent in a byte that may not, and names the
-/// first such byte. `Counter` comes only where there is none, and names the first counter that is not the
-/// expected one. A reply that is accepted has neither.
+/// first such byte. `Counter` comes exactly where there is none, and names the first counter that is not the
+/// expected one. Both name the step. A reply is accepted exactly where it has neither.
 pub fn replies_are_judged()
-    ensures reply { (step : Step) (expected : List ℕ) (sent reply : FrameValue) (at : ℕ)
-        → (judged step expected sent reply ≡ Some (Reply step at)) ↔ (first_difference sent reply ≡ Some at) }
+    ensures reply { (step named : Step) (expected : List ℕ) (sent reply : FrameValue) (at : ℕ)
+        → (judged step expected sent reply ≡ Some (Reply named at)) ↔ ((named ≡ step) × (first_difference sent reply ≡ Some at)) }
     ensures counter { (step named : Step) (expected : List ℕ) (sent reply : FrameValue) (e k : ℕ)
-        → judged step expected sent reply ≡ Some (Counter named e k)
-        → (first_difference sent reply ≡ None) × IsFirstMiscount expected (counters reply) e k }
+        → (judged step expected sent reply ≡ Some (Counter named e k))
+        ↔ ((named ≡ step) × (first_difference sent reply ≡ None) × IsFirstMiscount expected (counters reply) e k) }
     ensures accepted { (step : Step) (expected : List ℕ) (sent reply : FrameValue) → length expected ≡ length reply.datagrams
-        → judged step expected sent reply ≡ None → (first_difference sent reply ≡ None) × (counters reply ≡ expected) }
+        → (judged step expected sent reply ≡ None) ↔ ((first_difference sent reply ≡ None) × (counters reply ≡ expected)) }
 {}
 
 /// The tree of statuses is the one that they list, and its refusal is theirs.
@@ -166,15 +170,15 @@ pub fn trees_are_listed()
 
 /// After the last Identify it is judged in this order whether the statuses list a tree, whether there is a
 /// clock, and whether each measuring slave can be measured. Where nothing is refused, the reference is the
-/// first clock.
+/// first clock. Each answer comes exactly where its cause is.
 pub fn slaves_are_judged()
     ensures topology { (ss : List SlaveWords) (e : TopologyError) → (judgement ss ≡ Err (Topology e)) ↔ (tree_told ss ≡ Err e) }
     ensures no_reference { (ss : List SlaveWords) (hung : List Place) → tree_told ss ≡ Ok hung
         → (judgement ss ≡ Err NoReference) ↔ (clocks ss ≡ []) }
     ensures unmeasurable { (ss : List SlaveWords) (hung : List Place) (k : ℕ) → tree_told ss ≡ Ok hung
-        → judgement ss ≡ Err (Unmeasurable k) → first_unmeasurable hung (flag (map is_measuring ss)) ≡ Some k }
-    ensures reference { (ss : List SlaveWords) (r : ℕ) → judgement ss ≡ Ok r
-        → (hung : List Place) × (rest : List ℕ) × (tree_told ss ≡ Ok hung) × (clocks ss ≡ r ∷ rest)
-        × (first_unmeasurable hung (flag (map is_measuring ss)) ≡ None) }
+        → (judgement ss ≡ Err (Unmeasurable k)) ↔ ((clocks ss ≢ []) × (first_unmeasurable hung (flag (map is_measuring ss)) ≡ Some k)) }
+    ensures reference { (ss : List SlaveWords) (r : ℕ)
+        → (judgement ss ≡ Ok r) ↔ ((hung : List Place) × (rest : List ℕ) × (tree_told ss ≡ Ok hung) × (clocks ss ≡ r ∷ rest)
+        × (first_unmeasurable hung (flag (map is_measuring ss)) ≡ None)) }
     ensures within { (ss : List SlaveWords) (r : ℕ) → judgement ss ≡ Ok r → r < length ss }
 {}

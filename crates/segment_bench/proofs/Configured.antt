@@ -12,7 +12,7 @@ use Rattle.segment_file.proofs.LegalLemmas.{order_many, row_within}
 use Rattle.segment_start.specs.Start.{no_row}
 use Rattle.run_of_file.specs.MasterOfFile.{kind_of, plan_of, row_of, master_of}
 use Rattle.run_of_file.proofs.InRange.{as_many_kinds, as_many_plans, some_rows, few_rows, lock_in_few}
-use Rattle.dc_master.specs.ConfigRange.{IsConfig, IsKind, IsPlan, IsSync1}
+use Rattle.master_steps.specs.ConfigRange.{IsConfig, IsKind, IsPlan, IsSync1}
 
 -- a slave keeps a frame for a time in its range
 kind_at : (s : SegmentValue) → IsLegal s → (r : ℕ) → r < length s.rows → IsKind (kind_of (row_of s r))

@@ -4,10 +4,10 @@ use Rattle.master_script.specs.Script.{Arm as ArmCall}
 use Rattle.std.specs.List.{range_with_len}
 use Rattle.ecat_link.proofs.Serving.{serves_none, serves_weaker}
 use Rattle.dc_bounds.specs.Weight.{flag}
-use Rattle.dc_master.proofs.Counting.{counted_none, counted_then}
-use Rattle.dc_master.specs.ConfigRange.{value_of}
-use Rattle.dc_master.specs.Known.{words_of}
-use Rattle.dc_master.proofs.Left.{left, left_end, left_no, left_yes}
+use Rattle.master_steps.proofs.Counting.{counted_none, counted_then}
+use Rattle.master_steps.specs.ConfigRange.{value_of}
+use Rattle.master_steps.specs.Known.{words_of}
+use Rattle.master_steps.proofs.Left.{left, left_end, left_no, left_yes}
 use Rattle.dc_master.proofs.Parts.{at_todo, then_err, then_ok}
 use Rattle.dc_master.proofs.Times.{shown_arm}
 use Rattle.dc_master.proofs.commission.arm.Goals as goal

@@ -2,8 +2,8 @@ use Rattle.std.proofs.Common.{◌≡◌, ◌∙◌, map, sym, ap}
 use Rattle.dc_master.proofs.Causes.{slaves_cause}
 use Rattle.std.proofs.Common.{Ok, Err, arith}
 use Rattle.ecat_link.proofs.Serving.{serves_then, serves_weaker}
-use Rattle.dc_master.specs.ConfigRange.{value_of}
-use Rattle.dc_master.specs.Known.{words_of}
+use Rattle.master_steps.specs.ConfigRange.{value_of}
+use Rattle.master_steps.specs.Known.{words_of}
 use Rattle.dc_master.proofs.Judging.{never_judged}
 use Rattle.dc_master.proofs.Parts.{at_todo}
 use Rattle.dc_master.proofs.Planned.{planned_ok}

@@ -7,9 +7,9 @@ use Rattle.std.specs.List.{range_with_len}
 use Rattle.std.proofs.lemmas.List.{length_push}
 use Rattle.ecat_link.proofs.Serving.{serves_weaker}
 use Rattle.dc_delay.specs.ShapeRows.{positions}
-use Rattle.dc_master.proofs.Counting.{counted_then}
-use Rattle.dc_master.specs.ConfigRange.{value_of}
-use Rattle.dc_master.specs.Known.{words_of}
+use Rattle.master_steps.proofs.Counting.{counted_then}
+use Rattle.master_steps.specs.ConfigRange.{value_of}
+use Rattle.master_steps.specs.Known.{words_of}
 use Rattle.dc_master.proofs.Parts.{at_todo, range_more, refused_part, shown_none, then_err, then_ok}
 use Rattle.dc_master.proofs.commission.identify_slaves.Goals as goal
 use Rattle.master_script.specs.Progress.{Commissioning}

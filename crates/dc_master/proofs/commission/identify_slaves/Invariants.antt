@@ -1,9 +1,10 @@
 use Rattle.std.proofs.Common.{◌≡◌, ◌+◌, ◌-◌, ◌*◌, ◌≤◌, [], length, map, None}
 use Rattle.std.specs.List.{range_with_len}
 use Rattle.ecat_link.specs.Serves.{Serves}
-use Rattle.dc_master.specs.ConfigRange.{value_of}
-use Rattle.dc_master.specs.Known.{words_of}
-use Rattle.dc_master.specs.Places.{Asks, HasSent, IsCounted}
+use Rattle.master_steps.specs.ConfigRange.{value_of}
+use Rattle.master_steps.specs.Known.{words_of}
+use Rattle.dc_master.specs.Places.{HasSent}
+use Rattle.master_steps.specs.Asking.{Asks, IsCounted}
 use Rattle.dc_master.proofs.commission.identify_slaves.Given as goal
 use Rattle.master_script.specs.Progress.{Commissioning, first_steps}
 use Rattle.master_script.specs.Script.{Commission, script}

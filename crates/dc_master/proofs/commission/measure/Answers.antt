@@ -2,8 +2,8 @@ use Rattle.std.proofs.Common.{◌∷◌, ◌++◌, [], map, refl, ap, sym, ◌�
 use Rattle.dc_master.proofs.Causes.{step_causes}
 use Rattle.master_script.specs.Script.{Commission}
 use Rattle.ecat_link.proofs.Serving.{serves_then, serves_weaker}
-use Rattle.dc_master.specs.ConfigRange.{value_of}
-use Rattle.dc_master.specs.Known.{words_of}
+use Rattle.master_steps.specs.ConfigRange.{value_of}
+use Rattle.master_steps.specs.Known.{words_of}
 use Rattle.dc_master.proofs.Parts.{at_todo, refused_part, then_err, then_ok}
 use Rattle.dc_master.proofs.Times.{shown_ahead, times_ahead}
 use Rattle.dc_master.proofs.commission.measure.Goals as goal

@@ -7,10 +7,10 @@ use Rattle.ecat_link.proofs.Serving.{serves_none, serves_weaker}
 use Rattle.dc_bounds.specs.Weight.{flag}
 use Rattle.dc_delay.specs.Latched.{measures}
 use Rattle.dc_delay.specs.declared.latch.Latch.{Latch}
-use Rattle.dc_master.proofs.Counting.{counted_none, counted_then}
-use Rattle.dc_master.specs.ConfigRange.{value_of}
-use Rattle.dc_master.specs.Known.{words_of}
-use Rattle.dc_master.proofs.Left.{left, left_end}
+use Rattle.master_steps.proofs.Counting.{counted_none, counted_then}
+use Rattle.master_steps.specs.ConfigRange.{value_of}
+use Rattle.master_steps.specs.Known.{words_of}
+use Rattle.master_steps.proofs.Left.{left, left_end}
 use Rattle.dc_master.proofs.Parts.{at_todo, steps_no, steps_yes, then_err, then_ok}
 use Rattle.dc_master.proofs.Times.{read_all, read_more, read_over, shown_ahead, unread_more}
 use Rattle.dc_master.proofs.commission.read_times.Goals as goal

@@ -2,10 +2,11 @@ use Rattle.std.proofs.Common.{◌≡◌, ◌*◌, ◌<◌, ◌≤◌, ℕ, List,
 use Rattle.ecat_link.specs.Serves.{Serves}
 use Rattle.dc_bounds.specs.Weight.{flag}
 use Rattle.dc_delay.specs.Latched.{measures}
-use Rattle.dc_master.specs.ConfigRange.{value_of}
-use Rattle.dc_master.specs.Known.{words_of}
-use Rattle.dc_master.specs.Places.{Asks, HasSent, IsCounted}
-use Rattle.dc_master.proofs.Left.{left}
+use Rattle.master_steps.specs.ConfigRange.{value_of}
+use Rattle.master_steps.specs.Known.{words_of}
+use Rattle.dc_master.specs.Places.{HasSent}
+use Rattle.master_steps.specs.Asking.{Asks, IsCounted}
+use Rattle.master_steps.proofs.Left.{left}
 use Rattle.dc_master.proofs.commission.read_times.Given as goal
 use Rattle.master_script.specs.Progress.{Commissioning}
 use Rattle.master_script.specs.Script.{Commission, script}

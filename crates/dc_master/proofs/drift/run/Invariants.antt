@@ -1,9 +1,10 @@
 use Rattle.std.proofs.Common.{◌≡◌, ◌≤◌, [], None}
 use Rattle.ecat_link.specs.Serves.{Serves}
-use Rattle.dc_master.specs.ConfigRange.{value_of}
-use Rattle.dc_master.specs.Known.{words_of}
-use Rattle.dc_master.specs.Places.{AtRest, HasSent, IsCounted}
-use Rattle.dc_master.proofs.Trying.{sent_of}
+use Rattle.master_steps.specs.ConfigRange.{value_of}
+use Rattle.master_steps.specs.Known.{words_of}
+use Rattle.dc_master.specs.Places.{AtRest, HasSent}
+use Rattle.master_steps.specs.Asking.{IsCounted}
+use Rattle.master_steps.proofs.Trying.{sent_of}
 use Rattle.dc_master.proofs.drift.run.Given as goal
 use Rattle.master_script.specs.Progress.{Running, progress}
 use Rattle.master_script.specs.Script.{Run, script}

@@ -3,9 +3,9 @@ use Rattle.dc_master.proofs.Causes.{cause_as, drift_causes}
 use Rattle.master_script.specs.Script.{Settle as SettleCall}
 use Rattle.ecat_frame.specs.Built.{built}
 use Rattle.ecat_link.proofs.Serving.{serves_none, serves_weaker}
-use Rattle.dc_master.proofs.Counting.{counted_none, counted_then}
-use Rattle.dc_master.specs.ConfigRange.{value_of}
-use Rattle.dc_master.specs.Known.{words_of}
+use Rattle.master_steps.proofs.Counting.{counted_none, counted_then}
+use Rattle.master_steps.specs.ConfigRange.{value_of}
+use Rattle.master_steps.specs.Known.{words_of}
 use Rattle.dc_master.proofs.Driving.{ready_timed, refused_behind, refused_same, settle_back, settle_first, settle_missed, settle_none, time_none, timed_never, words_timed}
 use Rattle.dc_master.proofs.drift.settle.Goals as goal
 use Rattle.dc_master.proofs.drift.settle.Goals.{in-Some+in_default-receive_time, in_default}

@@ -3,8 +3,8 @@ use Rattle.dc_bounds.specs.Weight.{flag}
 use Rattle.dc_delay.specs.Latched.{laps, measures}
 use Rattle.dc_delay.specs.MeasuredDelay.{delay_list}
 use Rattle.dc_delay.specs.ShapeRows.{positions, rows_of}
-use Rattle.dc_master.specs.ConfigRange.{value_of}
-use Rattle.dc_master.specs.Known.{words_of}
+use Rattle.master_steps.specs.ConfigRange.{value_of}
+use Rattle.master_steps.specs.Known.{words_of}
 use Rattle.dc_master.proofs.Judging.{delays_told, measured, unrefused}
 use Rattle.dc_master.proofs.judgement.measure_delays.Goals as goal
 use Rattle.master_script.specs.Slaves.{is_clock}

@@ -1,5 +1,5 @@
 use Rattle.std.proofs.Common.{◌∙◌, None, [], ap, sym, subst}
-use Rattle.dc_master.specs.ConfigRange.{IsConfig}
+use Rattle.master_steps.specs.ConfigRange.{IsConfig}
 use Rattle.master_script.specs.Kept.{kept_after}
 use Rattle.segment_bench.proofs.Begun.{unsent}
 use Rattle.segment_bench.proofs.Configured.{config_legal}

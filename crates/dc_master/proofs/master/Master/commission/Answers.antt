@@ -1,7 +1,7 @@
 use Rattle.std.proofs.Common.{refl, arith}
-use Rattle.dc_master.specs.ConfigRange.{value_of}
+use Rattle.master_steps.specs.ConfigRange.{value_of}
 use Rattle.dc_master.specs.Inside.{kept_of}
-use Rattle.dc_master.specs.Known.{words_of}
+use Rattle.master_steps.specs.Known.{words_of}
 use Rattle.dc_master.proofs.Calling.{call_refused, commission_begins, commission_done}
 use Rattle.dc_master.proofs.Calls.{is_fresh}
 use Rattle.dc_master.proofs.Exactly.{held, holds}
@@ -47,7 +47,7 @@ returns-in-Ok-clause-made g c _ =
     let none = c.in_default.is in
     let s = is_fresh cfg n w ds a.stage a.refusal (rw (← c.self.view_is) at c.requires) none c.self.invariant.stage in
     rw (← c.self.view_is)
-    (makes g.L.Link.step Commission _ _ _ _ _ c.self.invariant.stands (before_run a.stage stage.Fresh s.0 (λ frames h. h))
+    (makes g.L.Link.step Commission _ _ _ _ _ c.self.invariant.stands (before_run a.stage stage.Fresh s.0 (λ ran frames h. h))
     (commission_done g.L.Link.step cfg a.stage a.refusal n m.counters w (words_of m.learned) ds m.delays.items _ _ none s c.in-Ok.ensures.ready c.in-Ok.ensures.serves))
 
 pub returns-in-Err-clause-made : goal.returns-in-Err-clause-made
@@ -61,7 +61,7 @@ returns-in-Err-clause-made g c _ =
     let none = c.in_default.is in
     let s = is_fresh cfg n w ds a.stage a.refusal (rw (← c.self.view_is) at c.requires) none c.self.invariant.stage in
     rw (← c.self.view_is)
-    (makes g.L.Link.step Commission _ _ _ _ _ c.self.invariant.stands (before_run a.stage stage.Fresh s.0 (λ frames h. h))
+    (makes g.L.Link.step Commission _ _ _ _ _ c.self.invariant.stands (before_run a.stage stage.Fresh s.0 (λ ran frames h. h))
     (call_refused g.L.Link.step cfg a.stage a.refusal n m.counters w (words_of m.learned) ds m.delays.items _ _ none Commission c.in-Err.refusal _ (commission_begins cfg a.stage a.refusal n w ds none s) c.in-Err.ensures.serves))
 
 pub invariant_of-self : goal.invariant_of-self
@@ -81,8 +81,8 @@ invariant_of-self g c =
       drifts = c.commission.ensures.sent.drifts;
       started = λ h. c.in-Ok.ensures.ready.clocks;
       stage = holds cfg m.counters (words_of m.learned) m.delays.items stage.Commissioned a.refusal none (omega (arith, z.sent, c.commission.ensures.sent.few), c.commission.ensures.drifts, c.in-Ok.ensures.ready);
-      stands = stands_then g.L.Link.step Commission (kept_of a) _ _ _ _ c.self.invariant.stands (before_run a.stage stage.Fresh s.0 (λ frames h. h))
-          (commission_done g.L.Link.step cfg a.stage a.refusal n m.counters w (words_of m.learned) ds m.delays.items _ _ none s c.in-Ok.ensures.ready c.in-Ok.ensures.serves) refl tt refl;
+      stands = stands_then g.L.Link.step Commission (kept_of a) _ _ _ _ c.self.invariant.stands (before_run a.stage stage.Fresh s.0 (λ ran frames h. h)) _
+          (commission_done g.L.Link.step cfg a.stage a.refusal n m.counters w (words_of m.learned) ds m.delays.items _ _ none s c.in-Ok.ensures.ready c.in-Ok.ensures.serves) (λ xs q. q) (λ xs q. refl) refl tt;
     }
 
 pub invariant_of-self-in-Err : goal.invariant_of-self-in-Err
@@ -102,6 +102,6 @@ invariant_of-self-in-Err g c =
       drifts = c.commission.ensures.sent.drifts;
       started = λ h. absurd (omega (arith, h, c.commission.ensures.drifts));
       stage = omega (arith, z.sent, c.commission.ensures.sent.few);
-      stands = stands_then g.L.Link.step Commission (kept_of a) _ _ _ _ c.self.invariant.stands (before_run a.stage stage.Fresh s.0 (λ frames h. h))
-          (call_refused g.L.Link.step cfg a.stage a.refusal n m.counters w (words_of m.learned) ds m.delays.items _ _ none Commission c.in-Err.refusal _ (commission_begins cfg a.stage a.refusal n w ds none s) c.in-Err.ensures.serves) refl tt tt;
+      stands = stands_then g.L.Link.step Commission (kept_of a) _ _ _ _ c.self.invariant.stands (before_run a.stage stage.Fresh s.0 (λ ran frames h. h)) _
+          (call_refused g.L.Link.step cfg a.stage a.refusal n m.counters w (words_of m.learned) ds m.delays.items _ _ none Commission c.in-Err.refusal _ (commission_begins cfg a.stage a.refusal n w ds none s) c.in-Err.ensures.serves) (λ xs q. q) (λ xs q. tt) refl tt;
     }

@@ -1,6 +1,6 @@
 use Rattle.std.proofs.Common.{◌∙◌, ap, rules, arith, refl}
-use Rattle.dc_master.specs.ConfigRange.{value_of}
-use Rattle.dc_master.specs.Known.{nothing, words_of}
+use Rattle.master_steps.specs.ConfigRange.{value_of}
+use Rattle.master_steps.specs.Known.{nothing, words_of}
 use Rattle.dc_master.proofs.Calls.{fresh_is}
 use Rattle.dc_master.proofs.Making.{stands_fresh}
 use Rattle.dc_master.proofs.master.Master.new.Goals as goal

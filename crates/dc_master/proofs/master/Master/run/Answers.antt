@@ -1,12 +1,13 @@
-use Rattle.std.proofs.Common.{refl, arith}
-use Rattle.dc_master.specs.ConfigRange.{value_of}
+use Rattle.std.proofs.Common.{Some, refl, sym, ap, arith}
+use Rattle.master_steps.specs.ConfigRange.{value_of}
 use Rattle.dc_master.specs.Inside.{kept_of}
-use Rattle.dc_master.specs.Known.{words_of}
-use Rattle.dc_master.proofs.Calling.{call_refused, run_begins, run_done}
+use Rattle.master_steps.specs.Known.{words_of}
+use Rattle.dc_master.proofs.Calling.{call_refused, run_begins, run_done, run_ends, run_stood}
 use Rattle.dc_master.proofs.Calls.{is_armed, ready_as}
 use Rattle.dc_master.proofs.Exactly.{held, holds}
 use Rattle.dc_master.proofs.Making.{before_run, makes, stands_then}
 use Rattle.dc_master.proofs.master.Master.run.Goals as goal
+use Rattle.master_script.specs.Progress.{Progress}
 use Rattle.master_script.specs.Script.{Run}
 use Rattle.master_script.specs.declared.step.Stage.TheVariants as stage
 
@@ -49,7 +50,7 @@ returns-in-Ok-clause-made g c _ =
     let s = is_armed cfg n w ds a.stage a.refusal (rw (← c.self.view_is) at c.requires.stage) none c.self.invariant.stage in
     let ready = ready_as cfg w (words_of m.learned) ds m.delays.items c.run.ensures.words c.run.ensures.delays s.1 in
     rw (← c.self.view_is)
-    (makes g.L.Link.step (Run c.args.frames) _ _ _ _ _ c.self.invariant.stands (before_run a.stage stage.Armed s.0 (λ frames h. h))
+    (makes g.L.Link.step (Run c.args.frames) _ _ _ _ _ c.self.invariant.stands (before_run a.stage stage.Armed s.0 (λ ran frames h. h))
     (run_done g.L.Link.step cfg a.stage a.refusal n m.counters w (words_of m.learned) ds m.delays.items _ _ none s c.args.frames ready c.in-Ok.ensures.serves))
 
 pub returns-in-Err-clause-made : goal.returns-in-Err-clause-made
@@ -63,7 +64,7 @@ returns-in-Err-clause-made g c _ =
     let none = c.in_default.is in
     let s = is_armed cfg n w ds a.stage a.refusal (rw (← c.self.view_is) at c.requires.stage) none c.self.invariant.stage in
     rw (← c.self.view_is)
-    (makes g.L.Link.step (Run c.args.frames) _ _ _ _ _ c.self.invariant.stands (before_run a.stage stage.Armed s.0 (λ frames h. h))
+    (makes g.L.Link.step (Run c.args.frames) _ _ _ _ _ c.self.invariant.stands (before_run a.stage stage.Armed s.0 (λ ran frames h. h))
     (call_refused g.L.Link.step cfg a.stage a.refusal n m.counters w (words_of m.learned) ds m.delays.items _ _ none (Run c.args.frames) c.in-Err.refusal _ (run_begins cfg a.stage a.refusal n w ds none s) c.in-Err.ensures.serves))
 
 pub invariant_of-self : goal.invariant_of-self
@@ -84,8 +85,10 @@ invariant_of-self g c =
       drifts = c.run.ensures.sent.drifts;
       started = λ h. ready.clocks;
       stage = holds cfg m.counters (words_of m.learned) m.delays.items stage.Ended a.refusal none omega (arith, z.0, c.run.ensures.sent.few, c.requires.few);
-      stands = stands_then g.L.Link.step (Run c.args.frames) (kept_of a) _ _ _ _ c.self.invariant.stands (before_run a.stage stage.Armed s.0 (λ frames h. h))
-          (run_done g.L.Link.step cfg a.stage a.refusal n m.counters w (words_of m.learned) ds m.delays.items _ _ none s c.args.frames ready c.in-Ok.ensures.serves) refl c.requires.few tt;
+      stands = stands_then g.L.Link.step (Run c.args.frames) (kept_of a) _ _ _ _ c.self.invariant.stands (before_run a.stage stage.Armed s.0 (λ ran frames h. h)) _
+          (run_stood g.L.Link.step cfg a.stage a.refusal n m.counters w (words_of m.learned) ds m.delays.items _ _ none s c.args.frames c.in-Ok.ensures.serves)
+          (run_ends cfg a.refusal m.counters (words_of m.learned) m.delays.items none c.args.frames ready)
+          (λ xs q. ap (λ (p : Progress). Some p.ran) (sym q)) refl c.requires.few;
     }
 
 pub invariant_of-self-in-Err : goal.invariant_of-self-in-Err
@@ -106,6 +109,6 @@ invariant_of-self-in-Err g c =
       drifts = c.run.ensures.sent.drifts;
       started = λ h. ready.clocks;
       stage = omega (arith, z.0, c.run.ensures.sent.few, c.requires.few);
-      stands = stands_then g.L.Link.step (Run c.args.frames) (kept_of a) _ _ _ _ c.self.invariant.stands (before_run a.stage stage.Armed s.0 (λ frames h. h))
-          (call_refused g.L.Link.step cfg a.stage a.refusal n m.counters w (words_of m.learned) ds m.delays.items _ _ none (Run c.args.frames) c.in-Err.refusal _ (run_begins cfg a.stage a.refusal n w ds none s) c.in-Err.ensures.serves) refl c.requires.few tt;
+      stands = stands_then g.L.Link.step (Run c.args.frames) (kept_of a) _ _ _ _ c.self.invariant.stands (before_run a.stage stage.Armed s.0 (λ ran frames h. h)) _
+          (call_refused g.L.Link.step cfg a.stage a.refusal n m.counters w (words_of m.learned) ds m.delays.items _ _ none (Run c.args.frames) c.in-Err.refusal _ (run_begins cfg a.stage a.refusal n w ds none s) c.in-Err.ensures.serves) (λ xs q. q) (λ xs q. tt) refl c.requires.few;
     }

@@ -1,7 +1,7 @@
 use Rattle.std.proofs.Common.{◌≤◌, List, length, refl, subst, sym, arith}
-use Rattle.dc_master.specs.ConfigRange.{value_of}
+use Rattle.master_steps.specs.ConfigRange.{value_of}
 use Rattle.dc_master.specs.Inside.{kept_of}
-use Rattle.dc_master.specs.Known.{words_of}
+use Rattle.master_steps.specs.Known.{words_of}
 use Rattle.dc_master.proofs.Calling.{call_refused, settle_begins, settle_done}
 use Rattle.dc_master.proofs.Calls.{is_commissioned}
 use Rattle.dc_master.proofs.Exactly.{held, holds}
@@ -48,7 +48,7 @@ returns-in-Ok-clause-made g c _ =
     let none = c.in_default.is in
     let s = is_commissioned cfg n w ds a.stage a.refusal (rw (← c.self.view_is) at c.requires) none c.self.invariant.stage in
     rw (← c.self.view_is)
-    (makes g.L.Link.step Settle _ _ _ _ _ c.self.invariant.stands (before_run a.stage stage.Commissioned s (λ frames h. h))
+    (makes g.L.Link.step Settle _ _ _ _ _ c.self.invariant.stands (before_run a.stage stage.Commissioned s (λ ran frames h. h))
     (settle_done g.L.Link.step cfg a.stage a.refusal n m.counters w (words_of m.learned) ds m.delays.items _ _ none s c.in-Ok.ensures.ready c.in-Ok.ensures.serves))
 
 pub returns-in-Err-clause-made : goal.returns-in-Err-clause-made
@@ -62,7 +62,7 @@ returns-in-Err-clause-made g c _ =
     let none = c.in_default.is in
     let s = is_commissioned cfg n w ds a.stage a.refusal (rw (← c.self.view_is) at c.requires) none c.self.invariant.stage in
     rw (← c.self.view_is)
-    (makes g.L.Link.step Settle _ _ _ _ _ c.self.invariant.stands (before_run a.stage stage.Commissioned s (λ frames h. h))
+    (makes g.L.Link.step Settle _ _ _ _ _ c.self.invariant.stands (before_run a.stage stage.Commissioned s (λ ran frames h. h))
     (call_refused g.L.Link.step cfg a.stage a.refusal n m.counters w (words_of m.learned) ds m.delays.items _ _ none Settle c.in-Err.refusal _ (settle_begins cfg a.stage a.refusal n w ds none s) c.in-Err.ensures.serves))
 
 pub invariant_of-self : goal.invariant_of-self
@@ -82,8 +82,8 @@ invariant_of-self g c =
       drifts = c.settle.ensures.sent.drifts;
       started = λ h. c.in-Ok.ensures.ready.clocks;
       stage = holds cfg m.counters (words_of m.learned) m.delays.items stage.Settled a.refusal none (omega (arith, z.0, c.settle.ensures.sent.few), c.in-Ok.ensures.drifts, c.in-Ok.ensures.ready);
-      stands = stands_then g.L.Link.step Settle (kept_of a) _ _ _ _ c.self.invariant.stands (before_run a.stage stage.Commissioned s (λ frames h. h))
-          (settle_done g.L.Link.step cfg a.stage a.refusal n m.counters w (words_of m.learned) ds m.delays.items _ _ none s c.in-Ok.ensures.ready c.in-Ok.ensures.serves) refl tt refl;
+      stands = stands_then g.L.Link.step Settle (kept_of a) _ _ _ _ c.self.invariant.stands (before_run a.stage stage.Commissioned s (λ ran frames h. h)) _
+          (settle_done g.L.Link.step cfg a.stage a.refusal n m.counters w (words_of m.learned) ds m.delays.items _ _ none s c.in-Ok.ensures.ready c.in-Ok.ensures.serves) (λ xs q. q) (λ xs q. refl) refl tt;
     }
 
 pub invariant_of-self-in-Err : goal.invariant_of-self-in-Err
@@ -103,6 +103,6 @@ invariant_of-self-in-Err g c =
       drifts = c.settle.ensures.sent.drifts;
       started = λ h. subst (λ (ss : List SlaveWords). 1 ≤ length (clocks ss)) (sym c.settle.ensures.slaves) z.2.clocks;
       stage = omega (arith, z.0, c.settle.ensures.sent.few);
-      stands = stands_then g.L.Link.step Settle (kept_of a) _ _ _ _ c.self.invariant.stands (before_run a.stage stage.Commissioned s (λ frames h. h))
-          (call_refused g.L.Link.step cfg a.stage a.refusal n m.counters w (words_of m.learned) ds m.delays.items _ _ none Settle c.in-Err.refusal _ (settle_begins cfg a.stage a.refusal n w ds none s) c.in-Err.ensures.serves) refl tt tt;
+      stands = stands_then g.L.Link.step Settle (kept_of a) _ _ _ _ c.self.invariant.stands (before_run a.stage stage.Commissioned s (λ ran frames h. h)) _
+          (call_refused g.L.Link.step cfg a.stage a.refusal n m.counters w (words_of m.learned) ds m.delays.items _ _ none Settle c.in-Err.refusal _ (settle_begins cfg a.stage a.refusal n w ds none s) c.in-Err.ensures.serves) (λ xs q. q) (λ xs q. tt) refl tt;
     }

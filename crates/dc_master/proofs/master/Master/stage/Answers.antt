@@ -1,5 +1,5 @@
-use Rattle.dc_master.specs.ConfigRange.{value_of}
-use Rattle.dc_master.specs.Known.{words_of}
+use Rattle.master_steps.specs.ConfigRange.{value_of}
+use Rattle.master_steps.specs.Known.{words_of}
 use Rattle.dc_master.proofs.Calls.{fresh_stands}
 use Rattle.dc_master.proofs.master.Master.stage.Goals as goal
 

@@ -1,0 +1,11 @@
+use Rattle.std.proofs.Common.{◌≡◌, ◌+◌, ◌≤◌, length, map}
+use Rattle.dc_bounds.specs.Weight.{flag}
+use Rattle.master_steps.proofs.Left.{left}
+use Rattle.master_steps.proofs.learned.Learned.clocks.Given as goal
+use Rattle.master_script.specs.Slaves.{is_clock, clocks}
+
+abbrev pub invariant-loop-position : goal.invariant-loop-position
+invariant-loop-position l = record {
+  count : l.count + length (left (flag (map is_clock l.self.slaves.items)) (length l.self.slaves.items) l.position) ≡ length (clocks l.self.slaves.items);
+  few : l.count ≤ l.position;
+}

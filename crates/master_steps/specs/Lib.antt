@@ -1,0 +1,3 @@
+pub mod ConfigRange
+pub mod Known
+pub mod Asking

@@ -1,0 +1,188 @@
+ghost use Rattle.std.specs.Prelude.{◌≡◌, ◌<◌, ◌≤◌, IfOk, length, map, None, slice_index_or};
+ghost use Rattle.dc_bounds.specs.Weight.{flag};
+ghost use Rattle.master_script.specs.Slaves.{is_clock, is_measuring, is_wide, clocks, measuring};
+ghost use Rattle.master_script.specs.Steps.{expected_fourth};
+ghost use Rattle.master_script.specs.Words.{reference_of, unit_of, wide_at};
+ghost use Rattle.master_steps.specs.Known.{nothing, words_of};
+
+use arrayvec::ArrayVec;
+use dc_delay::Latch;
+use std::alloc::{AllocError, Global};
+use std::marker::Model;
+use wrap_time::{ClockWord, T32};
+
+/// What a slave told at Identify.
+#[derive(Clone, Copy, Debug)]
+pub struct SlaveWords {
+    pub features: u16,
+    pub status: u16,
+    /// The working counter of the read of its system time.
+    pub fourth: u16,
+}
+
+impl Model for SlaveWords {
+    ghost use Rattle.master_script.specs.Slaves.{SlaveWords as Told};
+
+    ghost Value = { Told };
+
+    ghost view = { λ a. record { features = a.features; status = a.status; fourth = a.fourth } };
+
+    ghost inverse = { λ s. record { features = s.features; status = s.status; fourth = s.fourth } };
+}
+
+impl Default for SlaveWords {
+    ghost use Rattle.std.specs.Prelude.{◌≡◌};
+
+    ghost is_default = { λ x. x ≡ record { features = 0; status = 0; fourth = 0 } };
+
+    // Those of no slave.
+    fn default() -> SlaveWords {
+        SlaveWords {
+            features: 0,
+            status: 0,
+            fourth: 0,
+        }
+    }
+}
+
+impl SlaveWords {
+    /// Whether it has distributed clocks, and latches receive times.
+    pub fn is_measuring(&self) -> bool
+        ensures { result ≡ is_measuring self.now }
+    {
+        self.features >> 2 & 1 == 1
+    }
+
+    /// Whether it measures and has a system time.
+    pub fn is_clock(&self) -> bool
+        ensures { result ≡ is_clock self.now }
+    {
+        self.is_measuring() && self.fourth == 1
+    }
+
+    /// Whether its times have 64 bits.
+    pub(crate) fn is_wide(&self) -> bool
+        ensures { result ≡ is_wide self.now }
+    {
+        self.features >> 3 & 1 == 1
+    }
+
+    /// The counter that the read of its system time is expected to have: a measuring slave without a
+    /// system time refuses it.
+    pub(crate) fn expected_fourth(&self) -> u16
+        ensures { result ≡ expected_fourth self.now }
+    {
+        if self.is_measuring() && self.fourth != 0 {
+            1
+        } else {
+            0
+        }
+    }
+}
+
+/// What a master has learned from replies.
+#[derive(Debug, Drop)]
+pub struct Learned {
+    /// What each slave told, in frame order.
+    pub slaves: ArrayVec<SlaveWords, 256>,
+    /// The position of the reference, once the slaves are judged.
+    pub reference: Option<u16>,
+    /// By position, the receive times that were read.
+    pub latches: Vec<Option<Latch>>,
+    /// The number of the sending of the latch frame that came back; 0 before.
+    pub latched: u32,
+    /// The time of the reference in the last settle frame that came back, in ns.
+    pub time: Option<u64>,
+}
+
+impl Learned {
+    /// Nothing is learned yet of so many slaves.
+    // The proof of a list of latches needs a value of the type of their times in sight, though no time is there yet.
+    pub fn new(alloc: Global, slaves: usize) -> Result<Learned, AllocError>
+        ensures { IfOk result (λ l. words_of l ≡ nothing slaves) }
+    {
+        let _time = T32::cut(0);
+        let latches = vec![in alloc; None; slaves]?;
+        Ok(Learned {
+            slaves: ArrayVec::new(),
+            reference: None,
+            latches,
+            latched: 0,
+            time: None,
+        })
+    }
+
+    pub fn reference_or_0(&self) -> u16
+        ensures { result ≡ reference_of (words_of self.now) }
+    {
+        self.reference.unwrap_or(0)
+    }
+
+    /// Whether the times of the slave at a position have 64 bits.
+    pub(crate) fn is_wide(&self, position: u16) -> bool
+        ensures { result ≡ wide_at (words_of self.now) position }
+    {
+        match self.slaves.get(usize::from(position)) {
+            Some(slave) => slave.is_wide(),
+            None => false,
+        }
+    }
+
+    /// The receive time at the processing unit of the slave at a position.
+    pub(crate) fn unit(&self, position: u16) -> u64
+        ensures { result ≡ unit_of (slice_index_or (words_of self.now).latches position None) }
+    {
+        match self.latches.get(usize::from(position)) {
+            Some(Some(latch)) => latch.unit,
+            _ => 0,
+        }
+    }
+
+    /// Whether the slave at a position measures.
+    pub fn is_measuring(&self, position: u16) -> bool
+        ensures { result ≡ flag (map is_measuring (words_of self.now).slaves) position }
+    {
+        match self.slaves.get(usize::from(position)) {
+            Some(slave) => slave.is_measuring(),
+            None => false,
+        }
+    }
+
+    /// Whether the slave at a position is a clock.
+    pub fn is_clock(&self, position: u16) -> bool
+        ensures { result ≡ flag (map is_clock (words_of self.now).slaves) position }
+    {
+        match self.slaves.get(usize::from(position)) {
+            Some(slave) => slave.is_clock(),
+            None => false,
+        }
+    }
+
+    /// N_m, the number of slaves that measure.
+    pub(crate) fn measuring(&self) -> u16
+        ensures is { result ≡ length (measuring (words_of self.now).slaves) }
+        ensures few { result ≤ 256 }
+    {
+        let mut count = 0;
+        for position in 0..self.slaves.len() as u16 {
+            if self.is_measuring(position) {
+                count += 1;
+            }
+        }
+        count
+    }
+
+    /// N_c, the number of clocks.
+    pub fn clocks(&self) -> u16
+        ensures is { result ≡ length (clocks (words_of self.now).slaves) }
+        ensures few { result ≤ 256 }
+    {
+        let mut count = 0;
+        for position in 0..self.slaves.len() as u16 {
+            if self.is_clock(position) {
+                count += 1;
+            }
+        }
+        count
+    }
+}
