@@ -14,8 +14,6 @@ pub mod laws;
 mod losses;
 mod migrate;
 mod slaves;
-#[cfg(test)]
-mod tests;
 mod write;
 
 pub use migrate::migrated;
