@@ -32,7 +32,7 @@ use Rattle.named_slaves.proofs.Frames.{had_before, low_where, same_many}
 use Rattle.honest_replies.specs.Told.{IsMeant}
 use Rattle.honest_replies.proofs.Mindful.{mindful_step}
 use Rattle.honest_runs.specs.FileSlaves.{kind_at, row_at, status_at}
-use Rattle.honest_runs.specs.Progressing.{IsLate}
+use Rattle.honest_runs.proofs.Progressing.{IsLate}
 use Rattle.honest_runs.proofs.Positions.{row_has}
 use Rattle.honest_runs.proofs.Returning.{came_back}
 use Rattle.run_of_file.specs.MasterOfFile.{master_of}
