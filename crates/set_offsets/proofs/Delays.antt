@@ -1,5 +1,5 @@
 -- A measured delay has no more than 32 bits: it is near the true one, which is shorter than a frame period.
-use Rattle.std.proofs.Common.{◌≡◌, ℕ, ◌+◌, ◌*◌, ◌^◌, ◌<◌, ◌≤◌, List, length, Option, Some, None, Ok, refl, sym, ap, subst, ◌∙◌, arith}
+use Rattle.std.proofs.Common.{◌≡◌, ℕ, ◌+◌, ◌*◌, ◌^◌, ◌<◌, ◌≤◌, length, Option, Some, None, Ok, refl, ap, ◌∙◌, arith}
 use Rattle.std.specs.Prelude.{slice_index_or, unwrap_or}
 use Rattle.dc_bounds.specs.LockNumbers.{period_fs}
 use Rattle.dc_bounds.specs.TickBounds.{jump, tick_gap}

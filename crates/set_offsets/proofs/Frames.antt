@@ -1,8 +1,7 @@
 -- What a frame of commissioning leaves of the offsets and delays of all slaves.
-use Rattle.std.proofs.Common.{◌≡◌, ◌≢◌, ℕ, ◌+◌, ◌^◌, ◌*◌, ◌<◌, ◌≤◌, Bool, true, false, nat_lt, List, [], ◌∷◌, length, Option, Some, refl, sym, ap, subst, ◌∙◌, arith, inl, inr}
+use Rattle.std.proofs.Common.{◌≡◌, ◌≢◌, ℕ, ◌+◌, ◌^◌, ◌*◌, ◌<◌, ◌≤◌, Bool, true, false, nat_lt, List, Some, refl, sym, ap, subst, ◌∙◌, arith, inl, inr}
 use Rattle.std.specs.Prelude.{⊤, slice_get, ◌==◌, ◌%◌}
 use Rattle.std.proofs.lemmas.Bool.Decides.{nat_tests}
-use Rattle.byteorder.specs.Endian.{little_bytes}
 use Rattle.ecat_frame.specs.FrameGrammar.{DatagramValue, FrameValue}
 use Rattle.esc_regs.specs.RegisterTable.{is_wide}
 use Rattle.esc_regs.specs.declared.clock_kind.ClockKind.{ClockKind}
@@ -11,7 +10,7 @@ use Rattle.frame_pass.specs.FramePass.{at_arrival, datagrams_behind, end_of, sla
 use Rattle.frame_pass.specs.Invariants.{IsSound, IsSoundSegment}
 use Rattle.frame_pass.specs.Reach.{reach_of}
 use Rattle.frame_pass.specs.SegmentState.{SegmentState, leaves_at, segment_step}
-use Rattle.frame_pass.specs.SlaveState.{Slave, delay, offset, station}
+use Rattle.frame_pass.specs.SlaveState.{Slave, delay, offset}
 use Rattle.frame_pass.proofs.AtPositions.{step_reached}
 use Rattle.frame_pass.proofs.Sound.{timely_leaving}
 use Rattle.visit_laws.specs.Aside.{AreAside, HaveSize, never_writes}

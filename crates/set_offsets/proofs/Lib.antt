@@ -6,3 +6,4 @@ pub mod Delays
 pub mod Runs
 pub mod Behind
 pub mod Readings
+pub mod Times

@@ -1,11 +1,10 @@
 -- What the offset of a clock is by what the clock showed, and that the reference has no delay.
-use Rattle.std.proofs.Common.{◌≡◌, ℕ, ◌+◌, ◌-◌, ◌*◌, ◌/◌, ◌<◌, ◌≤◌, Bool, true, false, List, length, map, Option, Some, None, Result, Ok, Err, refl, sym, ap, ap₂, ◌∙◌, arith, inl, inr}
+use Rattle.std.proofs.Common.{◌≡◌, ℕ, ◌+◌, ◌-◌, ◌*◌, ◌/◌, ◌<◌, Bool, true, false, List, length, map, Option, Some, None, Result, Ok, Err, refl, sym, ap, ap₂, ◌∙◌, arith, inl, inr}
 use Rattle.std.specs.Prelude.{if◌then◌else◌, slice_index_or, unwrap_or}
 use Rattle.std.specs.List.{find}
 use Rattle.std.proofs.lemmas.Bool.{cases_lt}
 use Rattle.std.proofs.lemmas.List.{get_or_past}
 use Rattle.std.proofs.lemmas.List.FromFn.{get_or-map-range_with_len, length-map-range_with_len}
-use Rattle.cable_tree.specs.PathSums.{arrive}
 use Rattle.cable_tree.specs.declared.port.Port.{Port}
 use Rattle.cable_tree.specs.Row.{Row}
 use Rattle.dc_bounds.specs.Weight.{flag}
@@ -25,9 +24,8 @@ use Rattle.master_script.specs.Offset.{offset}
 use Rattle.master_script.specs.Progress.{progress}
 use Rattle.master_script.specs.Slaves.{SlaveWords, is_clock, is_measuring, judged_clocks, judged_tree, judgement, tree_told}
 use Rattle.master_script.specs.Words.{Words, delay_at, delays_of, hung_of, hung_or_none, offset_at, unit_of, wide_at}
-use Rattle.master_script.specs.declared.step.Refusal.{Refusal}
 use Rattle.segment_file.specs.Legal.{IsLegal}
-use Rattle.segment_file.specs.Segment.{SegmentValue, clock_at, measures_at, tree_rows}
+use Rattle.segment_file.specs.Segment.{SegmentValue, clock_at, measures_at}
 use Rattle.segment_shape.specs.Slaves.{has_clock, measures}
 use Rattle.honest_runs.specs.FileSlaves.{kind_at, row_at, status_at}
 use Rattle.honest_runs.proofs.Judged.{judged_ok}
@@ -35,9 +33,10 @@ use Rattle.honest_runs.proofs.Positions.{row_has}
 use Rattle.run_of_file.specs.MasterOfFile.{master_of}
 use Rattle.run_of_file.specs.RunOfFile.{RunEnd, commissioned}
 use Rattle.latch_times.specs.Resting.{row_there, shown_at}
-use Rattle.latch_times.proofs.Ended.{late, sent_at, told}
+use Rattle.latch_times.proofs.Ended.{late, told}
 use Rattle.latch_times.proofs.Runs.{first_clock}
 use Rattle.latch_times.proofs.Widths.{wide_told}
+use Rattle.set_offsets.specs.SinceLatch.{latch_arrival}
 
 -- a clock measures
 clock_measures : (k : ClockKind) → has_clock k ≡ true → measures k ≡ true
@@ -115,7 +114,7 @@ module _ (s : SegmentValue) (run : RunEnd) (legal : IsLegal s) (is : commissione
 
   pub offset_by_reading : (p : ℕ) → p < length s.rows → clock_at s.rows (row_at s p) ≡ true
       → offset_at (master_of s) words p
-      ≡ offset (width (row_there s p).kind) s.head.epoch_ns (delay_at (master_of s) words p) (shown_at (row_there s p) (sent_at s legal run is ok + arrive (tree_rows s.rows) (row_at s p)))
+      ≡ offset (width (row_there s p).kind) s.head.epoch_ns (delay_at (master_of s) words p) (shown_at (row_there s p) (latch_arrival s words p))
   offset_by_reading p low clock =
       let latch = (told s legal run is ok).measuring p low (clock_there p low clock) in
       let d = delay_at (master_of s) words p in

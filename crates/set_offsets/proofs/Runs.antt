@@ -1,6 +1,6 @@
 -- The commissioning of a legal file, exchange by exchange.
-use Rattle.std.proofs.Common.{◌≡◌, ◌≢◌, ℕ, ◌≤◌, zero, suc, ◌+◌, ◌*◌, ◌^◌, ◌<◌, ◌⊎◌, Bool, true, false, List, [], ◌∷◌, ◌++◌, length, map, Option, Some, None, Ok, refl, sym, ap, ap₂, subst, ◌∙◌, append_assoc, arith, inl, inr}
-use Rattle.std.specs.Prelude.{⊤, slice_get}
+use Rattle.std.proofs.Common.{◌≡◌, ◌≢◌, ℕ, ◌≤◌, ◌+◌, ◌*◌, ◌^◌, ◌<◌, ◌⊎◌, Bool, true, false, List, [], ◌∷◌, ◌++◌, length, map, Some, None, Ok, refl, sym, subst, ◌∙◌, append_assoc, arith, inl, inr}
+use Rattle.std.specs.Prelude.{slice_get}
 use Rattle.std.specs.List.{AllByRecursion}
 use Rattle.std.proofs.Math.Nat.{mod-eq_of_lt, mod-lt}
 use Rattle.std.proofs.lemmas.List.{append-nil}
@@ -13,7 +13,7 @@ use Rattle.esc_regs.specs.RegisterTable.{is_wide}
 use Rattle.segment_file.specs.Legal.{IsLegal}
 use Rattle.segment_file.specs.Segment.{SegmentValue, clock_at}
 use Rattle.segment_shape.specs.Slaves.{has_clock}
-use Rattle.segment_start.specs.Start.{registers_of, slave_of, started_segment}
+use Rattle.segment_start.specs.Start.{slave_of, started_segment}
 use Rattle.segment_start.proofs.Starts.{as_many, stands_at}
 use Rattle.frame_pass.specs.Reach.{reach_of}
 use Rattle.frame_pass.specs.SegmentState.{SegmentState, segment_step}
@@ -46,7 +46,7 @@ use Rattle.set_offsets.specs.HeldOffsets.{AreSet, HoldsSet}
 use Rattle.set_offsets.proofs.Delays.{delay_few}
 use Rattle.set_offsets.proofs.Frames.{AreHeldOn, IsBefore, before_held, far_before, others_held, own_delay, own_offset}
 use Rattle.set_offsets.proofs.Registers.{none_first, set_on}
-use Rattle.set_offsets.proofs.Setting.{HoldsWritten, IsReadingOn, IsSet, IsSetBy, IsSetting, IsUnset, begins_setting, gone, latch_asked, set_asked, still, times_asked}
+use Rattle.set_offsets.proofs.Setting.{HoldsWritten, IsSet, IsSetBy, IsSetting, IsUnset, begins_setting, gone, latch_asked, set_asked, still, times_asked}
 
 some_same : {X : Type 0} {x y : X} → Some x ≡ Some y → x ≡ y
 some_same e = cc

@@ -1,1 +1,2 @@
 pub mod HeldOffsets
+pub mod SinceLatch
