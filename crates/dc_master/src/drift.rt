@@ -1,5 +1,5 @@
 // Drift frames of settling and running.
-ghost use Rattle.std.specs.Prelude.{◌≡◌, ◌≤◌, ◌∷◌, [], Err, None, IfErr, OnOk};
+ghost use Rattle.std.specs.Prelude.{◌≡◌, ◌≤◌, [], Err, IfErr, OnOk};
 ghost use Rattle.ecat_frame.specs.Built.{built};
 ghost use Rattle.ecat_frame.specs.FrameGrammar.{IsFrame};
 ghost use Rattle.ecat_link.specs.RoseBy.{RoseBy};
@@ -11,13 +11,10 @@ ghost use Rattle.master_steps.specs.Asking.{IsCounted};
 ghost use Rattle.master_script.specs.Causes.{IsCause};
 ghost use Rattle.master_script.specs.Config.{settle_frames as settle_frames_of};
 ghost use Rattle.master_script.specs.Frames.{drift_datagrams};
-ghost use Rattle.master_script.specs.Judged.{judged};
 ghost use Rattle.master_script.specs.Progress.{Running, Settling};
 ghost use Rattle.master_script.specs.Script.{Run, Settle as SettleCall, script};
-ghost use Rattle.master_script.specs.Slaves.{clocks as clocks_of};
 ghost use Rattle.master_script.specs.Words.{reference_of};
 ghost use Rattle.master_script.specs.declared.step.Refusal.TheVariants.{Lost};
-ghost use Rattle.master_script.specs.declared.step.Step.TheVariants.{Drift};
 
 use ecat_frame::Frame;
 use ecat_link::Link;
