@@ -17,10 +17,10 @@ use Rattle.acceptance.specs.Runs.{HoldsRun}
 of_run : (edges : Bool) (bytes : List ℕ) (left' taken taken' : Option (List ℕ)) (b : BenchState) (s : SegmentValue)
     → Answered (Some (Run edges)) Done (Some bytes) left' taken taken' (Some b) → IsSegmentText bytes s → HasRun s b (Ok tt)
 of_run edges bytes left' taken taken' b s h is =
-    let report = h.1.1.1.0 in
+    let file = h.1.1.1.0 in
     let same : bytes ≡ h.0 = h.1.0.0.0 in
-    let one : report.segment ≡ s = one_segment bytes report.segment s (subst (λ x. IsSegmentText x report.segment) (sym same) report.is) is in
-    subst (λ t. HasRun t b (Ok tt)) one report.run
+    let one : file.segment ≡ s = one_segment bytes file.segment s (subst (λ x. IsSegmentText x file.segment) (sym same) file.legal) is in
+    subst (λ t. HasRun t b (Ok tt)) one file.holds.run
 
 pub holds_run : (words : List (List ℕ)) (bytes : List ℕ) (o : Outcome) (left' taken taken' : Option (List ℕ)) (bench : Option BenchState)
     → Answered (command_of words) o (Some bytes) left' taken taken' bench → HoldsRun words bytes o bench

@@ -1,6 +1,5 @@
+pub mod Behind
+pub mod Exported
 pub mod Serving
-pub mod Driven
-pub mod Bounded
-pub mod Transmissions
 pub mod Complete
 pub mod Words

@@ -15,7 +15,7 @@ use Rattle.dc_top.specs.Runs.{IsLost, IsReport}
 use Rattle.dc_top.specs.SegFaults.{error_of}
 use Rattle.dc_top.specs.Written.{IsCut}
 use Rattle.dc_top.specs.declared.reading.InputUse.{InputUse}
-use Rattle.dc_top.specs.declared.reading.InputUse.TheVariants.{WholeInput, NoInput, NotBuilt}
+use Rattle.dc_top.specs.declared.reading.InputUse.TheVariants.{WholeInput, NoInput}
 use Rattle.dc_top.specs.declared.report.Report.{Report}
 use Rattle.dc_top.specs.declared.report.Report.TheVariants as report
 use Rattle.dc_words.specs.declared.command.Command.{Command}
@@ -27,11 +27,11 @@ use Rattle.dc_top.specs.declared.outcome.Outcome.TheVariants.{Done, Usage, BadTe
 abbrev pub input_limit : ℕ
 input_limit = 16777216
 
--- the bytes are a legal file, and the text is this one of its segment
-pub record IsOfFile (text_of : SegmentValue → List ℕ) (bytes text : List ℕ) : Type 0 where
+-- the bytes are a legal file, and P holds of its segment
+pub record OfFile (bytes : List ℕ) (P : SegmentValue → Type 0) : Type 0 where
   pub segment : SegmentValue
   pub legal : IsSegmentText bytes segment
-  pub written : text ≡ text_of segment
+  pub holds : P segment
 
 -- a command that drives no wire leaves no bench
 abbrev pub Idle : Type 0 → Option BenchState → Type 0
@@ -39,64 +39,57 @@ Idle P bench = P × (bench ≡ None)
 
 -- Command by command what is written of the input, and what is left in the bench; `gen` and `drill` have no input.
 abbrev pub Writes : Command → List ℕ → List ℕ → Option BenchState → Type 0
-Writes (Run edges) bytes text bench = IsReport (report.Run edges) (IsSegmentText bytes) text bench
-Writes Delays bytes text bench = IsReport report.Delays (IsSegmentText bytes) text bench
-Writes Check bytes text bench = Idle (IsOfFile check_text bytes text) bench
+Writes (Run edges) bytes text bench = OfFile bytes (λ s. IsReport (report.Run edges) s text bench)
+Writes Delays bytes text bench = OfFile bytes (λ s. IsReport report.Delays s text bench)
+Writes Check bytes text bench = Idle (OfFile bytes (λ s. text ≡ check_text s)) bench
 Writes Show bytes text bench = Idle (Shows 1 bytes text) bench
 Writes (Gen slaves seed) bytes text bench = Idle (text ≡ segment_text (generated slaves seed)) bench
-Writes (Drill slaves seed) bytes text bench = IsReport report.Drill (λ s. s ≡ generated slaves seed) text bench
-Writes Migrate bytes text bench = Idle (IsOfFile (λ s. segment_text (migrated s)) bytes text) bench
+Writes (Drill slaves seed) bytes text bench = IsReport report.Drill (generated slaves seed) text bench
+Writes Migrate bytes text bench = Idle (OfFile bytes (λ s. text ≡ segment_text (migrated s))) bench
 Writes command bytes text bench = ⊥
 
--- why a file is refused
-abbrev pub RefusesFile : List ℕ → Outcome → Option BenchState → Type 0
-RefusesFile bytes BadText bench = Idle (IsTold bytes error.BadText) bench
-RefusesFile bytes (BadSegment fault) bench = Idle (IsTold bytes (error_of fault)) bench
-RefusesFile bytes o bench = ⊥
+-- why a file is refused; want of memory says nothing of it
+abbrev pub RefusesFile : List ℕ → Outcome → Type 0
+RefusesFile bytes BadText = IsTold bytes error.BadText
+RefusesFile bytes (BadSegment fault) = IsTold bytes (error_of fault)
+RefusesFile bytes NoMemory = ⊤
+RefusesFile bytes o = ⊥
 
 -- how a run ends that is not whole
-abbrev pub RefusesRun : Report → (SegmentValue → Type 0) → Outcome → Option BenchState → Type 0
-RefusesRun r IsIt (Lost step) bench = IsLost r IsIt step bench
-RefusesRun r IsIt o bench = ⊥
+abbrev pub RefusesRun : Report → SegmentValue → Outcome → Option BenchState → Type 0
+RefusesRun r s (Lost step) bench = IsLost r s step bench
+RefusesRun r s NoMemory bench = ⊤
+RefusesRun r s o bench = ⊥
 
--- a segment that is drawn loses no frame, so its run is whole
-abbrev pub NeverRefuses : Outcome → Option BenchState → Type 0
-NeverRefuses o bench = ⊥
-
--- a file that is driven is refused, or its run is not whole
+-- a file that is driven is refused, or the run of its segment is not whole
 abbrev pub RefusesDriven : Report → List ℕ → Outcome → Option BenchState → Type 0
-RefusesDriven r bytes (Lost step) bench = RefusesRun r (IsSegmentText bytes) (Lost step) bench
-RefusesDriven r bytes o bench = RefusesFile bytes o bench
+RefusesDriven r bytes o bench = Idle (RefusesFile bytes o) bench ⊎ OfFile bytes (λ s. RefusesRun r s o bench)
 
 -- why lines of digits are refused
-abbrev pub RefusesLines : List ℕ → Outcome → Option BenchState → Type 0
-RefusesLines bytes (BadFrame line fault) bench = Idle (Refuses 1 bytes line fault) bench
-RefusesLines bytes o bench = ⊥
+abbrev pub RefusesLines : List ℕ → Outcome → Type 0
+RefusesLines bytes (BadFrame line fault) = Refuses 1 bytes line fault
+RefusesLines bytes NoMemory = ⊤
+RefusesLines bytes o = ⊥
 
--- command by command why the input, or the run, is refused
+-- Command by command why nothing is written. A segment that is drawn loses no frame, so its run is whole; other commands are not built.
 abbrev pub RefusesBy : Command → List ℕ → Outcome → Option BenchState → Type 0
 RefusesBy (Run edges) bytes o bench = RefusesDriven (report.Run edges) bytes o bench
 RefusesBy Delays bytes o bench = RefusesDriven report.Delays bytes o bench
-RefusesBy Check bytes o bench = RefusesFile bytes o bench
-RefusesBy Show bytes o bench = RefusesLines bytes o bench
-RefusesBy (Drill slaves seed) bytes o bench = NeverRefuses o bench
-RefusesBy Migrate bytes o bench = RefusesFile bytes o bench
-RefusesBy command bytes o bench = ⊥
+RefusesBy Check bytes o bench = Idle (RefusesFile bytes o) bench
+RefusesBy Show bytes o bench = Idle (RefusesLines bytes o) bench
+RefusesBy (Gen slaves seed) bytes o bench = Idle (o ≡ NoMemory) bench
+RefusesBy (Drill slaves seed) bytes o bench = o ≡ NoMemory
+RefusesBy Migrate bytes o bench = Idle (RefusesFile bytes o) bench
+RefusesBy command bytes o bench = Idle ((o ≡ NotYet) ⊎ (o ≡ NoMemory)) bench
 
--- What an answer over the whole input says, where `Done` is what may be written and left in the bench, and `Refused` what each refusal says:
--- Done appends the whole text, WriteFault a front of a text that is not empty, and every other answer keeps what was taken.
-abbrev pub Served : (List ℕ → Option BenchState → Type 0) → (Outcome → Option BenchState → Type 0) → Outcome → Option (List ℕ) → Option (List ℕ) → Option BenchState → Type 0
-Served written refused Done taken taken' bench = (text : List ℕ) × (written text bench × Appends taken taken' text)
-Served written refused WriteFault taken taken' bench = (text : List ℕ) × (written text bench × IsCut text taken taken')
-Served written refused NoMemory taken taken' bench = Keeps taken taken'
-Served written refused ReadFault taken taken' bench = ⊥
-Served written refused TooLong taken taken' bench = ⊥
-Served written refused Usage taken taken' bench = ⊥
-Served written refused o taken taken' bench = refused o bench × Keeps taken taken'
-
--- the answer to a command over these bytes
+-- What an answer over the whole input says: Done appends the whole text, WriteFault a front of a text that is not empty, and every other
+-- answer keeps what was taken. No fault of the source is answered, nor that the input is too long.
 abbrev pub ServedBy : Command → List ℕ → Outcome → Option (List ℕ) → Option (List ℕ) → Option BenchState → Type 0
-ServedBy command bytes o taken taken' bench = Served (Writes command bytes) (RefusesBy command bytes) o taken taken' bench
+ServedBy command bytes Done taken taken' bench = (text : List ℕ) × (Writes command bytes text bench × Appends taken taken' text)
+ServedBy command bytes WriteFault taken taken' bench = (text : List ℕ) × (Writes command bytes text bench × IsCut text taken taken')
+ServedBy command bytes ReadFault taken taken' bench = ⊥
+ServedBy command bytes TooLong taken taken' bench = ⊥
+ServedBy command bytes o taken taken' bench = RefusesBy command bytes o bench × Keeps taken taken'
 
 -- the bytes are the whole input
 abbrev pub IsInput : Option (List ℕ) → Option (List ℕ) → List ℕ → Type 0
@@ -120,33 +113,22 @@ AnsweredOver command o left left' taken taken' bench = (bytes : List ℕ) × (Is
 abbrev pub AnsweredAlone : Command → Outcome → Option (List ℕ) → Option (List ℕ) → Option (List ℕ) → Option (List ℕ) → Option BenchState → Type 0
 AnsweredAlone command o left left' taken taken' bench = Keeps left left' × ServedBy command [] o taken taken' bench
 
--- nothing was read or written, and there is no bench
-abbrev pub IsSilent : Option (List ℕ) → Option (List ℕ) → Option (List ℕ) → Option (List ℕ) → Option BenchState → Type 0
-IsSilent left left' taken taken' bench = Keeps left left' × Keeps taken taken' × (bench ≡ None)
-
--- this answer, or want of memory, and nothing was read or written
-abbrev pub OnlyAnswers : Outcome → Outcome → Option (List ℕ) → Option (List ℕ) → Option (List ℕ) → Option (List ℕ) → Option BenchState → Type 0
-OnlyAnswers only o left left' taken taken' bench = ((o ≡ only) ⊎ (o ≡ NoMemory)) × IsSilent left left' taken taken' bench
-
 -- what a command does with the input
 abbrev pub reading : Command → InputUse
 reading (Run edges) = WholeInput
 reading Delays = WholeInput
 reading Check = WholeInput
 reading Show = WholeInput
-reading (Gen slaves seed) = NoInput
-reading (Drill slaves seed) = NoInput
 reading Migrate = WholeInput
-reading command = NotBuilt
+reading command = NoInput
 
 abbrev pub AnsweredIn : InputUse → Command → Outcome → Option (List ℕ) → Option (List ℕ) → Option (List ℕ) → Option (List ℕ) → Option BenchState → Type 0
 AnsweredIn WholeInput command o left left' taken taken' bench = AnsweredOver command o left left' taken taken' bench
 AnsweredIn NoInput command o left left' taken taken' bench = AnsweredAlone command o left left' taken taken' bench
-AnsweredIn NotBuilt command o left left' taken taken' bench = OnlyAnswers NotYet o left left' taken taken' bench
 
--- the answers to words: Usage to those that are no command
+-- the answers to words: Usage to those that are no command, where nothing is read or written
 abbrev pub Answered : Option Command → Outcome → Option (List ℕ) → Option (List ℕ) → Option (List ℕ) → Option (List ℕ) → Option BenchState → Type 0
-Answered None o left left' taken taken' bench = OnlyAnswers Usage o left left' taken taken' bench
+Answered None o left left' taken taken' bench = ((o ≡ Usage) ⊎ (o ≡ NoMemory)) × Keeps left left' × Keeps taken taken' × (bench ≡ None)
 Answered (Some command) o left left' taken taken' bench = AnsweredIn (reading command) command o left left' taken taken' bench
 
 -- the commands that read an input

@@ -1,12 +1,10 @@
 pub mod SegFaults
 pub mod Steps
 pub mod Outcomes
-pub mod Seen
+pub mod Tells
 pub mod CheckText
+pub mod Transmissions
 pub mod Runs
 pub mod Written
 pub mod Answers
-pub mod Driven
-pub mod Bounded
-pub mod Transmissions
 pub mod Complete

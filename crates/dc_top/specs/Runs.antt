@@ -1,6 +1,8 @@
 -- The commands that drive a master over a wire: how far the run of a segment goes, and what is written of it.
-use Rattle.std.specs.Prelude.{◌≡◌, ℕ, Bool, true, false, List, Option, Some, None, Ok, Err}
+use Rattle.std.specs.Prelude.{◌≡◌, ◌≤◌, ℕ, Bool, true, false, List, Option, Some, None, Ok, Err}
 use Rattle.dc_bench.specs.BenchState.{BenchState}
+use Rattle.delay_law.specs.NearDelays.{AreNear}
+use Rattle.edge_report.specs.Delays.{AreDelays}
 use Rattle.lost_step.specs.LostStep.{lost_step_of}
 use Rattle.master_script.specs.Script.{Answer}
 use Rattle.master_script.specs.declared.step.MasterError.TheVariants.{Refused}
@@ -11,6 +13,7 @@ use Rattle.run_of_file.specs.RunOfFile.{commissioned}
 use Rattle.segment_bench.specs.BenchRun.{HasRun}
 use Rattle.segment_file.specs.Segment.{SegmentValue}
 use Rattle.bench_report.specs.Reports.{drill_text, report_text, table_text}
+use Rattle.dc_top.specs.Transmissions.{Sends}
 use Rattle.dc_top.specs.declared.report.Report.{Report}
 use Rattle.dc_top.specs.declared.report.Report.TheVariants.{Delays, Run, Drill}
 
@@ -32,25 +35,29 @@ text_of Delays s b = table_text s b
 text_of (Run edges) s b = report_text s b edges
 text_of Drill s b = drill_text s b
 
--- a bench has made the run of such a segment, of which no step loses its three tries, and the text is what is written of it
-pub record IsReportOf (report : Report) (IsIt : SegmentValue → Type 0) (text : List ℕ) (bench : BenchState) : Type 0 where
-  pub segment : SegmentValue
-  pub is : IsIt segment
+-- A bench has made the run of this segment, of which no step loses its three tries, and the text is what is written of it. Each clock has
+-- a delay, which lies within the delay bound of the true one; the frames that were sent are as many as the file tells, and few.
+pub record IsReportOf (report : Report) (segment : SegmentValue) (text : List ℕ) (bench : BenchState) : Type 0 where
   pub run : HasMade report segment bench (Ok tt)
   pub losses : lost_step_of segment (goes_on report) ≡ None
+  pub delays : AreDelays segment bench.master.delays
+  pub near : AreNear segment bench.master.delays
+  pub sends : Sends report segment bench
+  pub few : bench.master.sent ≤ 100000
   pub written : text ≡ text_of report segment bench
 
-abbrev pub IsReport : Report → (SegmentValue → Type 0) → List ℕ → Option BenchState → Type 0
-IsReport report IsIt text None = ⊥
-IsReport report IsIt text (Some b) = IsReportOf report IsIt text b
+abbrev pub IsReport : Report → SegmentValue → List ℕ → Option BenchState → Type 0
+IsReport report s text None = ⊥
+IsReport report s text (Some b) = IsReportOf report s text b
 
--- this is the first step of the run of such a segment whose three tries are listed as lost, and its run ended there
-pub record IsLostBy (report : Report) (IsIt : SegmentValue → Type 0) (step : Step) (bench : BenchState) : Type 0 where
-  pub segment : SegmentValue
-  pub is : IsIt segment
+-- This is the first step of the run of this segment whose three tries are listed as lost, and the run ended there. The delays are near where
+-- that is behind commissioning, and the frames that were sent are few.
+pub record IsLostBy (report : Report) (segment : SegmentValue) (step : Step) (bench : BenchState) : Type 0 where
   pub run : HasMade report segment bench (Err (Refused (Lost step)))
   pub losses : lost_step_of segment (goes_on report) ≡ Some step
+  pub near : lost_step_of segment false ≡ None → AreNear segment bench.master.delays
+  pub few : bench.master.sent ≤ 100000
 
-abbrev pub IsLost : Report → (SegmentValue → Type 0) → Step → Option BenchState → Type 0
-IsLost report IsIt step None = ⊥
-IsLost report IsIt step (Some b) = IsLostBy report IsIt step b
+abbrev pub IsLost : Report → SegmentValue → Step → Option BenchState → Type 0
+IsLost report s step None = ⊥
+IsLost report s step (Some b) = IsLostBy report s step b

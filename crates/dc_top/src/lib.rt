@@ -13,7 +13,6 @@ mod reading;
 mod report;
 mod runs;
 mod seg_fault;
-mod segment_input;
 mod step_text;
 mod top;
 mod write;

@@ -2,8 +2,11 @@ ghost use Rattle.std.specs.Prelude.{◌≡◌};
 
 use crate::SegFault;
 use crate::step_text::StepText;
+use dc_base::NoMemory;
 use dc_master::Step;
-use dc_show::FrameFault;
+use dc_show::{FrameFault, ShowError};
+use segment_file::SegError;
+use std::alloc::AllocError;
 use std::fmt;
 
 /// How the program ends.
@@ -76,6 +79,63 @@ impl fmt::Display for Outcome {
             Outcome::NoMemory => write!(f, "dc: no memory"),
             Outcome::TooLong => write!(f, "dc: input too long"),
             Outcome::NotYet => write!(f, "dc: not yet"),
+        }
+    }
+}
+
+impl From<AllocError> for Outcome {
+    ghost use Rattle.dc_top.specs.declared.outcome.Outcome.TheVariants as outcome;
+
+    ghost from_gives = { λ _ o. o ≡ outcome.NoMemory };
+
+    fn from(_error: AllocError) -> Outcome {
+        Outcome::NoMemory
+    }
+}
+
+impl From<NoMemory> for Outcome {
+    ghost use Rattle.dc_top.specs.declared.outcome.Outcome.TheVariants as outcome;
+
+    ghost from_gives = { λ _ o. o ≡ outcome.NoMemory };
+
+    fn from(_error: NoMemory) -> Outcome {
+        Outcome::NoMemory
+    }
+}
+
+impl From<ShowError> for Outcome {
+    ghost use Rattle.dc_top.specs.Tells.{TellsLines};
+
+    ghost from_gives = { λ error o. TellsLines o error };
+
+    fn from(error: ShowError) -> Outcome {
+        match error {
+            ShowError::BadFrame(line, fault) => Outcome::BadFrame(line, fault),
+            ShowError::NoMemory => Outcome::NoMemory,
+        }
+    }
+}
+
+impl From<SegError> for Outcome {
+    ghost use Rattle.dc_top.specs.Tells.{TellsFile};
+
+    ghost from_gives = { λ error o. TellsFile o error };
+
+    fn from(error: SegError) -> Outcome {
+        match error {
+            SegError::BadText => Outcome::BadText,
+            SegError::Shape(path) => Outcome::BadSegment(SegFault::Shape(path)),
+            SegError::Twice(id) => Outcome::BadSegment(SegFault::Twice(id)),
+            SegError::Tree(tree) => Outcome::BadSegment(SegFault::Tree(tree)),
+            SegError::Rate(id) => Outcome::BadSegment(SegFault::Rate(id)),
+            SegError::NoReference => Outcome::BadSegment(SegFault::NoReference),
+            SegError::Unmeasurable(id) => Outcome::BadSegment(SegFault::Unmeasurable(id)),
+            SegError::TooSlow => Outcome::BadSegment(SegFault::TooSlow),
+            SegError::NoLock => Outcome::BadSegment(SegFault::NoLock),
+            SegError::Lead => Outcome::BadSegment(SegFault::Lead),
+            SegError::LossRun(number) => Outcome::BadSegment(SegFault::LossRun(number)),
+            SegError::TooMuch => Outcome::BadSegment(SegFault::TooMuch),
+            SegError::NoMemory => Outcome::NoMemory,
         }
     }
 }

@@ -10,8 +10,6 @@ pub enum InputUse {
     WholeInput,
     /// It reads nothing.
     NoInput,
-    /// It is not built yet.
-    NotBuilt,
 }
 
 /// What a command does with the input.
@@ -21,8 +19,6 @@ pub(crate) fn reading(command: &Command) -> InputUse
     match command {
         Command::Run { .. } | Command::Delays | Command::Check | Command::Show | Command::Migrate =>
             InputUse::WholeInput,
-        Command::Gen { .. } | Command::Drill { .. } => InputUse::NoInput,
-        Command::Trace | Command::Audit | Command::Again | Command::Latch { .. } | Command::Rate =>
-            InputUse::NotBuilt,
+        _ => InputUse::NoInput,
     }
 }

@@ -1,7 +1,6 @@
-//! The commands that drive a master over a wire.
+//! What the commands write that drive a master over a wire, or the answer where they write nothing.
 
-ghost use Rattle.std.specs.Prelude.{◌≡◌, ◌≤◌, Some, None, IfOk, Ok};
-ghost use Rattle.dc_base.specs.Causes.{Rose};
+ghost use Rattle.std.specs.Prelude.{◌≡◌, ◌≤◌, None, Some, IfErr, IfOk, Ok};
 ghost use Rattle.master_script.specs.declared.step.MasterError.TheVariants.{Refused};
 ghost use Rattle.master_script.specs.declared.step.Refusal.TheVariants.{Lost};
 ghost use Rattle.master_script.specs.declared.step.Stage.{Stage};
@@ -9,102 +8,84 @@ ghost use Rattle.master_script.specs.declared.step.Step.{Step as LostStep};
 ghost use Rattle.segment_bench.specs.NewBench.{IsNew};
 ghost use Rattle.segment_draw.specs.Generated.{generated};
 ghost use Rattle.segment_file.specs.Legal.{IsLegal};
-ghost use Rattle.segment_file.specs.Told.{IsSegmentText};
-ghost use Rattle.dc_top.specs.Answers.{NeverRefuses, RefusesDriven, RefusesRun, Served};
+ghost use Rattle.dc_top.specs.Answers.{OfFile, RefusesDriven, RefusesRun};
 ghost use Rattle.dc_top.specs.Runs.{HasMade, IsReport, text_of};
-ghost use Rattle.dc_top.specs.Written.{Wrote};
-ghost use Rattle.dc_top.specs.declared.outcome.Outcome.TheVariants.{WriteFault};
+ghost use Rattle.dc_top.specs.declared.outcome.Outcome.TheVariants as outcome;
 ghost use Rattle.dc_top.specs.declared.report.Report.TheVariants as report;
 
 use crate::Outcome;
 use crate::report::Report;
-use crate::segment_input::{outcome_of, segment_in};
-use crate::write::write;
 use bench_report::{delay_table, drill_report, run_report};
-use dc_base::{NoMemory, Sink};
+use dc_base::NoMemory;
 use dc_bench::Bench;
 use dc_master::{MasterError, Refusal, Step};
 use segment_bench::{commission, new_bench, run};
 use segment_draw::generate;
-use segment_file::Segment;
+use segment_file::{Segment, read_segment};
 use std::alloc::Global;
 
-/// Makes the run of the segment that the bytes of a file say, and writes what is reported of it.
-pub(crate) fn drive_file<O: Sink>(
+/// Makes the run of the segment that the bytes of a file say: what is reported of it.
+pub(crate) fn drive_file(
     alloc: Global,
     bytes: &[u8],
     report: Report,
-    output: &mut O,
     bench: &mut Option<Bench>,
-) -> Outcome
+) -> Result<Vec<u8>, Outcome>
     requires { bench.old ≡ None }
-    ensures served { Served (IsReport report (IsSegmentText bytes.now)) (RefusesDriven report bytes.now) result
-        (O.taken output.old) (O.taken output.new) bench.new }
-    ensures fault { result ≡ WriteFault → Rose (O.faults output.old) (O.faults output.new) }
+    ensures written { IfOk result (λ text. OfFile bytes.now (λ s. IsReport report s text.items bench.new)) }
+    ensures refused { IfErr result (λ o. RefusesDriven report bytes.now o bench.new) }
 {
-    match segment_in(alloc, bytes) {
-        Ok(segment) => drive(alloc, &segment, report, output, bench),
-        Err(refusal) => outcome_of(refusal),
-    }
+    let segment = read_segment(alloc, bytes)?;
+    drive(alloc, &segment, report, bench)
 }
 
-/// Makes the run of the segment that is drawn by a seed, and writes what is reported of it.
-pub(crate) fn drill<O: Sink>(
+/// Makes the run of the segment that is drawn by a seed: what is reported of it.
+pub(crate) fn drill(
     alloc: Global,
     slaves: u16,
     seed: u64,
-    output: &mut O,
     bench: &mut Option<Bench>,
-) -> Outcome
+) -> Result<Vec<u8>, Outcome>
     requires { (1 ≤ slaves) × (slaves ≤ 256) }
-    ensures served { Served (IsReport report.Drill (λ s. s ≡ generated slaves seed)) NeverRefuses result
-        (O.taken output.old) (O.taken output.new) bench.new }
-    ensures fault { result ≡ WriteFault → Rose (O.faults output.old) (O.faults output.new) }
+    ensures written { IfOk result (λ text. IsReport report.Drill (generated slaves seed) text.items bench.new) }
+    ensures refused { IfErr result (λ o. o ≡ outcome.NoMemory) }
 {
-    match generate(alloc, slaves, seed) {
-        Ok(segment) => drive(alloc, &segment, Report::Drill, output, bench),
-        Err(NoMemory) => Outcome::NoMemory,
-    }
+    let segment = generate(alloc, slaves, seed)?;
+    drive(alloc, &segment, Report::Drill, bench)
 }
 
-// Makes the run of a segment over a new bench, which is left in `bench`, and writes what is reported of it.
-fn drive<O: Sink>(
+// Makes the run of a segment over a new bench, which is left in `bench`: what is reported of it.
+fn drive(
     alloc: Global,
     segment: &Segment,
     report: Report,
-    output: &mut O,
     bench: &mut Option<Bench>,
-) -> Outcome
-    ensures served { Served (IsReport report (λ s. s ≡ segment.now)) (RefusesRun report (λ s. s ≡ segment.now)) result
-        (O.taken output.old) (O.taken output.new) bench.new }
-    ensures fault { result ≡ WriteFault → Rose (O.faults output.old) (O.faults output.new) }
+) -> Result<Vec<u8>, Outcome>
+    ensures written { IfOk result (λ text. IsReport report segment.now text.items bench.new) }
+    ensures refused { IfErr result (λ o. RefusesRun report segment.now o bench.new) }
 {
-    let Ok(mut made) = new_bench(alloc, segment) else {
-        return Outcome::NoMemory;
-    };
-    let outcome = drive_bench(alloc, segment, report, &mut made, output);
+    let mut made = new_bench(alloc, segment)?;
+    let text = drive_bench(alloc, segment, report, &mut made);
     *bench = Some(made);
-    outcome
+    text
 }
 
 // The same over a bench that is there.
-fn drive_bench<O: Sink>(
+fn drive_bench(
     alloc: Global,
     segment: &Segment,
     report: Report,
     bench: &mut Bench,
-    output: &mut O,
-) -> Outcome
+) -> Result<Vec<u8>, Outcome>
     requires stage { bench.old.master.stage ≡ Stage.Fresh }
     requires refusal { bench.old.master.refusal ≡ None }
     requires new { IsNew segment.now bench.old }
-    ensures served { Served (IsReport report (λ s. s ≡ segment.now)) (RefusesRun report (λ s. s ≡ segment.now)) result
-        (O.taken output.old) (O.taken output.new) (Some bench.new) }
-    ensures fault { result ≡ WriteFault → Rose (O.faults output.old) (O.faults output.new) }
+    ensures written { IfOk result (λ text. IsReport report segment.now text.items (Some bench.new)) }
+    ensures refused { IfErr result (λ o. RefusesRun report segment.now o (Some bench.new)) }
 {
     match make_run(segment, report, bench) {
-        Ok(()) => write_report(alloc, segment, report, bench, output),
-        Err(error) => Outcome::Lost(step_of(error)),
+        Ok(()) => Ok(text_of(alloc, segment, report, bench)?),
+        Err(error) => Err(Outcome::Lost(step_of(error))),
     }
 }
 
@@ -118,25 +99,6 @@ fn make_run(segment: &Segment, report: Report, bench: &mut Bench) -> Result<(), 
     match report {
         Report::Delays => commission(bench),
         Report::Run { .. } | Report::Drill => run(bench, segment),
-    }
-}
-
-// Writes what is reported of a bench that has made its run.
-fn write_report<O: Sink>(
-    alloc: Global,
-    segment: &Segment,
-    report: Report,
-    bench: &Bench,
-    output: &mut O,
-) -> Outcome
-    requires legal { IsLegal segment.now }
-    requires made { HasMade report segment.now bench.now (Ok tt) }
-    ensures written { Wrote (text_of report segment.now bench.now) result (O.taken output.old) (O.taken output.new) }
-    ensures fault { result ≡ WriteFault → Rose (O.faults output.old) (O.faults output.new) }
-{
-    match text_of(alloc, segment, report, bench) {
-        Ok(text) => write(output, &text),
-        Err(NoMemory) => Outcome::NoMemory,
     }
 }
 

@@ -1,14 +1,11 @@
 // The top call.
-ghost use Rattle.std.specs.Prelude.{◌≡◌, ◌⊎◌, ◌<◌, ◌≤◌, ◌↔◌, [], map, length, string_bytes, Some, None, Err, IfOk, IfErr};
+ghost use Rattle.std.specs.Prelude.{◌≡◌, ◌⊎◌, ◌<◌, ◌≤◌, ◌↔◌, map, length, string_bytes, Some, None, Err, IfOk, IfErr};
 ghost use Rattle.dc_base.specs.Causes.{Rose};
 ghost use Rattle.dc_base.specs.Told.{Gave};
-ghost use Rattle.dc_top.specs.Answers.{Answered, AnsweredOver, DrivesWire, HasInput, IsInput, ServedBy, Unread, input_limit, reading};
-ghost use Rattle.dc_top.specs.Bounded.{MeasuresNear};
+ghost use Rattle.dc_top.specs.Answers.{Answered, AnsweredOver, DrivesWire, HasInput, IsInput, RefusesBy, ServedBy, Unread, Writes, input_limit, reading};
 ghost use Rattle.dc_top.specs.Complete.{IsServable};
-ghost use Rattle.dc_top.specs.Driven.{OfItsRun};
-ghost use Rattle.dc_top.specs.Transmissions.{Sends};
 ghost use Rattle.dc_top.specs.declared.outcome.Outcome.TheVariants.{Done, ReadFault, WriteFault, TooLong, NoMemory};
-ghost use Rattle.dc_top.specs.declared.reading.InputUse.TheVariants.{NoInput, WholeInput};
+ghost use Rattle.dc_top.specs.declared.reading.InputUse.TheVariants.{WholeInput};
 ghost use Rattle.dc_words.specs.CommandOfWords.{HasRanges, command_of};
 
 use crate::Outcome;
@@ -16,6 +13,7 @@ use crate::files::{check, draw, migrate, show};
 use crate::reading::{InputUse, reading};
 use crate::report::Report;
 use crate::runs::{drill, drive_file};
+use crate::write::write;
 use dc_base::{ReadAllError, Sink, Source, read_all};
 use dc_bench::Bench;
 use dc_words::{Command, read_words};
@@ -48,8 +46,8 @@ pub fn dc_main<I: Source, O: Sink>(
         (λ bytes. (result ≡ TooLong) ↔ (input_limit < length bytes)) }
     ensures read_fault { result ≡ ReadFault → Rose (I.faults input.old) (I.faults input.new) }
     ensures write_fault { result ≡ WriteFault → Rose (O.faults output.old) (O.faults output.new) }
-    ensures delay_bound { result ≡ Done → OfItsRun MeasuresNear (command_of (map string_bytes words.now)) (I.left input.old) bench.new }
-    ensures transmissions { result ≡ Done → OfItsRun Sends (command_of (map string_bytes words.now)) (I.left input.old) bench.new }
+    ensures read_later { I.faults input.old ≤ I.faults input.new }
+    ensures write_later { O.faults output.old ≤ O.faults output.new }
     ensures complete { IsServable (command_of (map string_bytes words.now)) (I.left input.old) → ¬ Rose (I.faults input.old) (I.faults input.new)
         → ¬ Rose (O.faults output.old) (O.faults output.new) → (result ≡ Done) ⊎ (result ≡ NoMemory) }
 {
@@ -61,8 +59,7 @@ pub fn dc_main<I: Source, O: Sink>(
         None => Outcome::Usage,
         Some(command) => match reading(&command) {
             InputUse::WholeInput => answer(alloc, command, input, output, bench),
-            InputUse::NoInput => answer_alone(alloc, command, output, bench),
-            InputUse::NotBuilt => Outcome::NotYet,
+            InputUse::NoInput => serve(alloc, command, &[], output, bench),
         },
     }
 }
@@ -74,6 +71,7 @@ fn read_input<I: Source>(alloc: Global, input: &mut I) -> Result<Vec<u8>, Outcom
     ensures too_long { Gave (I.left input.old) (I.left input.new)
         (λ bytes. (result ≡ Err TooLong) ↔ (input_limit < length bytes)) }
     ensures read_fault { result ≡ Err ReadFault → Rose (I.faults input.old) (I.faults input.new) }
+    ensures read_later { I.faults input.old ≤ I.faults input.new }
 {
     match read_all(alloc, input, INPUT_LIMIT) {
         Ok(bytes) => Ok(bytes),
@@ -91,13 +89,15 @@ fn answer<I: Source, O: Sink>(
     output: &mut O,
     bench: &mut Option<Bench>,
 ) -> Outcome
-    requires reads { reading command ≡ WholeInput }
+    requires ranges { HasRanges command }
     requires idle { bench.old ≡ None }
     ensures answered { AnsweredOver command result (I.left input.old) (I.left input.new) (O.taken output.old) (O.taken output.new) bench.new }
     ensures idle { (DrivesWire (Some command) → ⊥) → bench.new ≡ None }
     ensures too_long { Gave (I.left input.old) (I.left input.new) (λ bytes. (result ≡ TooLong) ↔ (input_limit < length bytes)) }
     ensures read_fault { result ≡ ReadFault → Rose (I.faults input.old) (I.faults input.new) }
     ensures write_fault { result ≡ WriteFault → Rose (O.faults output.old) (O.faults output.new) }
+    ensures read_later { I.faults input.old ≤ I.faults input.new }
+    ensures write_later { O.faults output.old ≤ O.faults output.new }
 {
     match read_input(alloc, input) {
         Ok(bytes) => serve(alloc, command, &bytes, output, bench),
@@ -105,7 +105,7 @@ fn answer<I: Source, O: Sink>(
     }
 }
 
-// The answer of such a command to the whole input.
+// Writes the text of a command over the whole input, where it has one.
 fn serve<O: Sink>(
     alloc: Global,
     command: Command,
@@ -113,40 +113,42 @@ fn serve<O: Sink>(
     output: &mut O,
     bench: &mut Option<Bench>,
 ) -> Outcome
-    requires reads { reading command ≡ WholeInput }
+    requires ranges { HasRanges command }
     requires idle { bench.old ≡ None }
     requires short { length bytes.now ≤ input_limit }
     ensures served { ServedBy command bytes.now result (O.taken output.old) (O.taken output.new) bench.new }
     ensures idle { (DrivesWire (Some command) → ⊥) → bench.new ≡ None }
     ensures fault { result ≡ WriteFault → Rose (O.faults output.old) (O.faults output.new) }
+    ensures later { O.faults output.old ≤ O.faults output.new }
 {
-    match command {
-        Command::Run { edges } => drive_file(alloc, bytes, Report::Run { edges }, output, bench),
-        Command::Delays => drive_file(alloc, bytes, Report::Delays, output, bench),
-        Command::Check => check(alloc, bytes, output),
-        Command::Show => show(alloc, bytes, output),
-        Command::Migrate => migrate(alloc, bytes, output),
-        _ => Outcome::NotYet,
+    match text_of(alloc, command, bytes, bench) {
+        Ok(text) => write(output, &text),
+        Err(outcome) => outcome,
     }
 }
 
-// The answer of a command without an input.
-fn answer_alone<O: Sink>(
+// The text of a command over the whole input, or the answer where nothing is written: a row for each command.
+fn text_of(
     alloc: Global,
     command: Command,
-    output: &mut O,
+    bytes: &[u8],
     bench: &mut Option<Bench>,
-) -> Outcome
-    requires reads { reading command ≡ NoInput }
+) -> Result<Vec<u8>, Outcome>
     requires ranges { HasRanges command }
     requires idle { bench.old ≡ None }
-    ensures served { ServedBy command [] result (O.taken output.old) (O.taken output.new) bench.new }
+    requires short { length bytes.now ≤ input_limit }
+    ensures written { IfOk result (λ text. Writes command bytes.now text.items bench.new) }
+    ensures refused { IfErr result (λ o. RefusesBy command bytes.now o bench.new) }
     ensures idle { (DrivesWire (Some command) → ⊥) → bench.new ≡ None }
-    ensures fault { result ≡ WriteFault → Rose (O.faults output.old) (O.faults output.new) }
 {
     match command {
-        Command::Gen { slaves, seed } => draw(alloc, slaves, seed, output),
-        Command::Drill { slaves, seed } => drill(alloc, slaves, seed, output, bench),
-        _ => Outcome::NotYet,
+        Command::Run { edges } => drive_file(alloc, bytes, Report::Run { edges }, bench),
+        Command::Delays => drive_file(alloc, bytes, Report::Delays, bench),
+        Command::Check => check(alloc, bytes),
+        Command::Show => show(alloc, bytes),
+        Command::Gen { slaves, seed } => draw(alloc, slaves, seed),
+        Command::Drill { slaves, seed } => drill(alloc, slaves, seed, bench),
+        Command::Migrate => migrate(alloc, bytes),
+        _ => Err(Outcome::NotYet),
     }
 }

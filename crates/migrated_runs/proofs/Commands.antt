@@ -1,14 +1,12 @@
 -- What the program answers over a segment's file, and over the file of the migrated segment.
-use Rattle.std.specs.Prelude.{◌≡◌, ◌↔◌, ◌≤◌, ℕ, Bool, true, false, List, Option, Some, None, length, Ok, Err}
-use Rattle.std.proofs.Common.{◌∙◌, ap, sym, subst, refl}
+use Rattle.std.specs.Prelude.{◌≡◌, ◌↔◌, ◌≤◌, ℕ, Bool, List, Option, Some, None, length, Ok, Err}
+use Rattle.std.proofs.Common.{◌∙◌, ap, inl, inr, sym, subst, refl}
 use Rattle.dc_bench.specs.BenchState.{BenchState}
 use Rattle.frame_pass.specs.SegmentState.{SegmentState}
-use Rattle.lost_step.specs.LostStep.{lost_step_of}
 use Rattle.master_script.specs.Kept.{Kept, kept_after}
 use Rattle.master_script.specs.Script.{Answer}
 use Rattle.master_script.specs.declared.step.MasterError.TheVariants.{Refused}
 use Rattle.master_script.specs.declared.step.Refusal.TheVariants.{Lost}
-use Rattle.master_script.specs.declared.step.Step.{Step}
 use Rattle.run_of_file.specs.AtEnd.{IsAtEnd}
 use Rattle.run_of_file.specs.MasterOfFile.{master_of}
 use Rattle.run_of_file.specs.RunOfFile.{RunEnd, commissioned, frames_given, run_of}
@@ -17,27 +15,32 @@ use Rattle.segment_file.specs.Legal.{IsLegal}
 use Rattle.segment_file.specs.Segment.{SegmentValue}
 use Rattle.segment_file.specs.Told.{IsSegmentText}
 use Rattle.segment_file.specs.Written.{segment_text}
-use Rattle.segment_file.specs.declared.seg_error.SegError.TheVariants as error
-use Rattle.segment_file.proofs.AnswerLemmas.{legal_unrefused, one_segment}
+use Rattle.segment_file.proofs.AnswerLemmas.{one_segment}
 use Rattle.segment_file.proofs.WrittenLemmas.{text_legal, written_text}
 use Rattle.segment_text.specs.Migrated.{migrated}
 use Rattle.segment_text.proofs.FileLength.{text_short}
 use Rattle.segment_text.proofs.MigratedLemmas.{migrated_legal}
-use Rattle.bench_report.specs.Reports.{report_text, table_text}
+use Rattle.dc_words.specs.declared.command.Command.{Command}
 use Rattle.dc_words.specs.declared.command.Command.TheVariants.{Run, Delays, Check, Migrate}
-use Rattle.dc_top.specs.Answers.{RefusesBy, RefusesFile, Served, ServedBy, Writes, input_limit}
+use Rattle.dc_top.specs.Answers.{OfFile, RefusesBy, RefusesDriven, RefusesFile, RefusesRun, ServedBy, Writes, input_limit}
 use Rattle.dc_top.specs.CheckText.{check_text}
-use Rattle.dc_top.specs.SegFaults.{error_of}
+use Rattle.dc_top.specs.Runs.{HasMade, IsReport, IsReportOf, text_of}
 use Rattle.dc_top.specs.declared.outcome.Outcome.{Outcome}
-use Rattle.dc_top.specs.declared.outcome.Outcome.TheVariants.{Done, Usage, BadText, BadSegment, ReadFault, WriteFault, NoMemory, TooLong}
+use Rattle.dc_top.specs.declared.outcome.Outcome.TheVariants.{Done, ReadFault, WriteFault, NoMemory, TooLong}
 use Rattle.dc_top.specs.declared.outcome.Outcome.TheVariants as outcome
-use Rattle.dc_top.specs.declared.seg_fault.SegFault.{SegFault}
-use Rattle.dc_top.specs.declared.seg_fault.SegFault.TheVariants.{Shape, Twice, Tree, Rate, NoReference, Unmeasurable, TooSlow, NoLock, Lead, LossRun, TooMuch}
-use Rattle.migrated_runs.proofs.Runs.{same_master, same_commissioned, same_run, same_losses}
-use Rattle.migrated_runs.proofs.Reports.{same_window, same_table, same_report}
+use Rattle.dc_top.specs.declared.report.Report.{Report}
+use Rattle.dc_top.specs.declared.report.Report.TheVariants as report
+use Rattle.dc_top.proofs.Exported.{only_memory, reported, told_lost}
+use Rattle.migrated_runs.proofs.Runs.{same_master, same_commissioned, same_run}
+use Rattle.migrated_runs.proofs.Reports.{same_window, same_table, same_report, same_drill}
 
 pub same_check : (s : SegmentValue) → check_text (migrated s) ≡ check_text s
 same_check s = rw (same_window s) refl
+
+same_text : (r : Report) (s : SegmentValue) (b : BenchState) → text_of r (migrated s) b ≡ text_of r s b
+same_text report.Delays s b = same_table s b
+same_text (report.Run edges) s b = same_report s b edges
+same_text report.Drill s b = same_drill s b
 
 -- two segments with the same runs and the same texts
 record AreAlike (s t : SegmentValue) : Type 0 where
@@ -45,9 +48,7 @@ record AreAlike (s t : SegmentValue) : Type 0 where
   pub commissioned : commissioned s ≡ commissioned t
   pub run : run_of s ≡ run_of t
   pub frames : frames_given s ≡ frames_given t
-  pub losses : (with_arming : Bool) → lost_step_of s with_arming ≡ lost_step_of t with_arming
-  pub table : (b : BenchState) → table_text s b ≡ table_text t b
-  pub report : (b : BenchState) (edges : Bool) → report_text s b edges ≡ report_text t b edges
+  pub text : (r : Report) (b : BenchState) → text_of r s b ≡ text_of r t b
   pub check : check_text s ≡ check_text t
 
 migrated_alike : (s : SegmentValue) → AreAlike (migrated s) s
@@ -56,9 +57,7 @@ migrated_alike s = record {
   commissioned = same_commissioned s;
   run = same_run s;
   frames = refl;
-  losses = same_losses s;
-  table = same_table s;
-  report = same_report s;
+  text = λ r b. same_text r s b;
   check = same_check s;
 }
 
@@ -68,47 +67,20 @@ alike_back s t h = record {
   commissioned = sym h.commissioned;
   run = sym h.run;
   frames = sym h.frames;
-  losses = λ with_arming. sym (h.losses with_arming);
-  table = λ b. sym (h.table b);
-  report = λ b edges. sym (h.report b edges);
+  text = λ r b. sym (h.text r b);
   check = sym h.check;
 }
 
--- ---- no legal file is refused
-
-no_memory : (fault : SegFault) → error_of fault ≡ error.NoMemory → ⊥
-no_memory (Shape path) e = cc
-no_memory (Twice id) e = cc
-no_memory (Tree t) e = cc
-no_memory (Rate id) e = cc
-no_memory NoReference e = cc
-no_memory (Unmeasurable id) e = cc
-no_memory TooSlow e = cc
-no_memory NoLock e = cc
-no_memory Lead e = cc
-no_memory (LossRun number) e = cc
-no_memory TooMuch e = cc
-
-bad_text : error.BadText ≡ error.NoMemory → ⊥
-bad_text e = cc
-
-never_refused : (bytes : List ℕ) (s : SegmentValue) → IsSegmentText bytes s → (o : Outcome) (bench : Option BenchState) → RefusesFile bytes o bench → ⊥
-never_refused bytes s is BadText bench h = bad_text (legal_unrefused bytes s error.BadText is h.0)
-never_refused bytes s is (BadSegment fault) bench h = no_memory fault (legal_unrefused bytes s (error_of fault) is h.0)
-never_refused bytes s is o bench h = h
-
 -- ---- an answer says no more where its parts say no more
 
-served : (W W' : List ℕ → Option BenchState → Type 0) (R R' : Outcome → Option BenchState → Type 0) → ((text : List ℕ) (bench : Option BenchState) → W text bench → W' text bench)
-    → ((o : Outcome) (bench : Option BenchState) → R o bench → R' o bench) → (o : Outcome) (taken taken' : Option (List ℕ)) (bench : Option BenchState)
-    → Served W R o taken taken' bench → Served W' R' o taken taken' bench
-served W W' R R' w r Done taken taken' bench h = (h.0, (w h.0 bench h.1.0, h.1.1))
-served W W' R R' w r WriteFault taken taken' bench h = (h.0, (w h.0 bench h.1.0, h.1.1))
-served W W' R R' w r NoMemory taken taken' bench h = h
-served W W' R R' w r ReadFault taken taken' bench h = h
-served W W' R R' w r TooLong taken taken' bench h = h
-served W W' R R' w r Usage taken taken' bench h = h
-served W W' R R' w r o taken taken' bench h = (r o bench h.0, h.1)
+served : (c c' : Command) (from to : List ℕ) → ((text : List ℕ) (bench : Option BenchState) → Writes c from text bench → Writes c' to text bench)
+    → ((o : Outcome) (bench : Option BenchState) → RefusesBy c from o bench → RefusesBy c' to o bench) → (o : Outcome) (taken taken' : Option (List ℕ)) (bench : Option BenchState)
+    → ServedBy c from o taken taken' bench → ServedBy c' to o taken taken' bench
+served c c' from to w r Done taken taken' bench h = (h.0, (w h.0 bench h.1.0, h.1.1))
+served c c' from to w r WriteFault taken taken' bench h = (h.0, (w h.0 bench h.1.0, h.1.1))
+served c c' from to w r ReadFault taken taken' bench h = h
+served c c' from to w r TooLong taken taken' bench h = h
+served c c' from to w r o taken taken' bench h = (r o bench h.0, h.1)
 
 -- ---- over the text of one segment, and over that of one alike
 
@@ -122,80 +94,57 @@ module _ (s t : SegmentValue) (alike : AreAlike s t) where
     answer_is = h.answer_is;
   }
 
-  commissioned_made : (b : BenchState) (answer : Answer) → IsAtEnd s None (commissioned s) b.wire b.master answer → IsAtEnd t None (commissioned t) b.wire b.master answer
-  commissioned_made b answer h = at_end None (commissioned s) (commissioned t) alike.commissioned b.wire b.master answer h
-
-  run_made : (b : BenchState) (answer : Answer) → HasRun s b answer → HasRun t b answer
-  run_made b (Ok tt) h =
+  whole : (b : BenchState) (answer : Answer) → HasRun s b answer → HasRun t b answer
+  whole b (Ok tt) h =
       (subst (λ n. IsAtEnd t (Some n) (run_of t) b.wire b.master (Ok tt)) alike.frames (at_end (Some (frames_given s)) (run_of s) (run_of t) alike.run b.wire b.master (Ok tt) h.0), h.1)
-  run_made b (Err e) h = (h.0, at_end h.0 (run_of s) (run_of t) alike.run b.wire b.master (Err e) h.1)
+  whole b (Err e) h = (h.0, at_end h.0 (run_of s) (run_of t) alike.run b.wire b.master (Err e) h.1)
 
-  losses_told : (with_arming : Bool) (u : SegmentValue) → u ≡ s → (lost : Option Step) → lost_step_of u with_arming ≡ lost → lost_step_of t with_arming ≡ lost
-  losses_told with_arming u same lost h = sym (alike.losses with_arming) ∙ ap (λ v. lost_step_of v with_arming) (sym same) ∙ h
+  made : (r : Report) (b : BenchState) (answer : Answer) → HasMade r s b answer → HasMade r t b answer
+  made report.Delays b answer h = at_end None (commissioned s) (commissioned t) alike.commissioned b.wire b.master answer h
+  made (report.Run edges) b answer h = whole b answer h
+  made report.Drill b answer h = whole b answer h
+
+  written_alike : (legal : IsLegal t) (r : Report) (text : List ℕ) (bench : Option BenchState) → IsReport r s text bench → IsReport r t text bench
+  written_alike legal r text None h = h
+  written_alike legal r text (Some b) h = subst (λ (bs : List ℕ). IsReportOf r t bs b) (sym (h.written ∙ alike.text r b)) (reported r t b legal (made r b (Ok tt) h.run))
+
+  ended_alike : (legal : IsLegal t) (r : Report) (o : Outcome) (bench : Option BenchState) → RefusesRun r s o bench → RefusesRun r t o bench
+  ended_alike legal r (outcome.Lost step) None h = h
+  ended_alike legal r (outcome.Lost step) (Some b) h = told_lost r t b step legal (made r b (Err (Refused (Lost step))) h.run)
+  ended_alike legal r o bench h = h
 
 module _ (s t : SegmentValue) (alike : AreAlike s t) (from to : List ℕ) (is : IsSegmentText from s) (is' : IsSegmentText to t) where
-  run_written : (edges : Bool) (text : List ℕ) (bench : Option BenchState) → Writes (Run edges) from text bench → Writes (Run edges) to text bench
-  run_written edges text None h = h
-  run_written edges text (Some b) h =
-      let same : h.segment ≡ s = one_segment from h.segment s h.is is in
-      record {
-        segment = t;
-        is = is';
-        run = run_made s t alike b (Ok tt) (subst (λ u. HasRun u b (Ok tt)) same h.run);
-        losses = losses_told s t alike true h.segment same None h.losses;
-        written = h.written ∙ ap (λ u. report_text u b edges) same ∙ alike.report b edges;
-      }
+  driven_written : (r : Report) (text : List ℕ) (bench : Option BenchState) → OfFile from (λ u. IsReport r u text bench) → OfFile to (λ u. IsReport r u text bench)
+  driven_written r text bench h = record {
+    segment = t;
+    legal = is';
+    holds = written_alike s t alike (text_legal to t is') r text bench (subst (λ u. IsReport r u text bench) (one_segment from h.segment s h.legal is) h.holds);
+  }
 
-  delays_written : (text : List ℕ) (bench : Option BenchState) → Writes Delays from text bench → Writes Delays to text bench
-  delays_written text None h = h
-  delays_written text (Some b) h =
-      let same : h.segment ≡ s = one_segment from h.segment s h.is is in
-      record {
-        segment = t;
-        is = is';
-        run = commissioned_made s t alike b (Ok tt) (subst (λ u. IsAtEnd u None (commissioned u) b.wire b.master (Ok tt)) same h.run);
-        losses = losses_told s t alike false h.segment same None h.losses;
-        written = h.written ∙ ap (λ u. table_text u b) same ∙ alike.table b;
-      }
+  -- a legal file is refused for want of memory alone, which says nothing of it
+  file_refused : (o : Outcome) → RefusesFile from o → RefusesFile to o
+  file_refused o h = subst (RefusesFile to) (sym (only_memory from s is o h)) tt
+
+  driven_refused : (r : Report) (o : Outcome) (bench : Option BenchState) → RefusesDriven r from o bench → RefusesDriven r to o bench
+  driven_refused r o bench (inl h) = inl (file_refused o h.0, h.1)
+  driven_refused r o bench (inr h) = inr (record {
+    segment = t;
+    legal = is';
+    holds = ended_alike s t alike (text_legal to t is') r o bench (subst (λ u. RefusesRun r u o bench) (one_segment from h.segment s h.legal is) h.holds);
+  })
 
   check_written : (text : List ℕ) (bench : Option BenchState) → Writes Check from text bench → Writes Check to text bench
   check_written text bench h =
-      (record { segment = t; legal = is'; written = h.0.written ∙ ap check_text (one_segment from h.0.segment s h.0.legal is) ∙ alike.check }, h.1)
-
-  run_refused : (edges : Bool) (o : Outcome) (bench : Option BenchState) → RefusesBy (Run edges) from o bench → RefusesBy (Run edges) to o bench
-  run_refused edges (outcome.Lost step) None h = h
-  run_refused edges (outcome.Lost step) (Some b) h =
-      let same : h.segment ≡ s = one_segment from h.segment s h.is is in
-      let lost = Err (Refused (Lost step)) in
-      record {
-        segment = t;
-        is = is';
-        run = run_made s t alike b lost (subst (λ u. HasRun u b lost) same h.run);
-        losses = losses_told s t alike true h.segment same (Some step) h.losses;
-      }
-  run_refused edges o bench h = absurd (never_refused from s is o bench h)
-
-  delays_refused : (o : Outcome) (bench : Option BenchState) → RefusesBy Delays from o bench → RefusesBy Delays to o bench
-  delays_refused (outcome.Lost step) None h = h
-  delays_refused (outcome.Lost step) (Some b) h =
-      let same : h.segment ≡ s = one_segment from h.segment s h.is is in
-      let lost = Err (Refused (Lost step)) in
-      record {
-        segment = t;
-        is = is';
-        run = commissioned_made s t alike b lost (subst (λ u. IsAtEnd u None (commissioned u) b.wire b.master lost) same h.run);
-        losses = losses_told s t alike false h.segment same (Some step) h.losses;
-      }
-  delays_refused o bench h = absurd (never_refused from s is o bench h)
+      (record { segment = t; legal = is'; holds = h.0.holds ∙ ap check_text (one_segment from h.0.segment s h.0.legal is) ∙ alike.check }, h.1)
 
   run_over : (edges : Bool) (o : Outcome) (taken taken' : Option (List ℕ)) (bench : Option BenchState) → ServedBy (Run edges) from o taken taken' bench → ServedBy (Run edges) to o taken taken' bench
-  run_over edges = served (Writes (Run edges) from) (Writes (Run edges) to) (RefusesBy (Run edges) from) (RefusesBy (Run edges) to) (run_written edges) (run_refused edges)
+  run_over edges = served (Run edges) (Run edges) from to (driven_written (report.Run edges)) (driven_refused (report.Run edges))
 
   delays_over : (o : Outcome) (taken taken' : Option (List ℕ)) (bench : Option BenchState) → ServedBy Delays from o taken taken' bench → ServedBy Delays to o taken taken' bench
-  delays_over = served (Writes Delays from) (Writes Delays to) (RefusesBy Delays from) (RefusesBy Delays to) delays_written delays_refused
+  delays_over = served Delays Delays from to (driven_written report.Delays) (driven_refused report.Delays)
 
   check_over : (o : Outcome) (taken taken' : Option (List ℕ)) (bench : Option BenchState) → ServedBy Check from o taken taken' bench → ServedBy Check to o taken taken' bench
-  check_over = served (Writes Check from) (Writes Check to) (RefusesBy Check from) (RefusesBy Check to) check_written (λ o bench h. absurd (never_refused from s is o bench h))
+  check_over = served Check Check from to check_written (λ o bench h. (file_refused o h.0, h.1))
 
 -- ---- over a file and what `migrate` has written of it
 
@@ -204,7 +153,7 @@ module _ (bytes file : List ℕ) (m : Writes Migrate bytes file None) where
   legal_migrated = migrated_legal m.0.segment (text_legal bytes m.0.segment m.0.legal)
 
   file_says : IsSegmentText file (migrated m.0.segment)
-  file_says = subst (λ text. IsSegmentText text (migrated m.0.segment)) (sym m.0.written) (written_text (migrated m.0.segment) legal_migrated)
+  file_says = subst (λ text. IsSegmentText text (migrated m.0.segment)) (sym m.0.holds) (written_text (migrated m.0.segment) legal_migrated)
 
   pub run_alike : (edges : Bool) (o : Outcome) (taken taken' : Option (List ℕ)) (bench : Option BenchState) → ServedBy (Run edges) file o taken taken' bench ↔ ServedBy (Run edges) bytes o taken taken' bench
   run_alike edges o taken taken' bench =
@@ -231,14 +180,14 @@ module _ (bytes file : List ℕ) (m : Writes Migrate bytes file None) where
       )
 
   pub file_short : length file ≤ input_limit
-  file_short = subst (λ text. length text ≤ input_limit) (sym m.0.written) (text_short (migrated m.0.segment) legal_migrated)
+  file_short = subst (λ text. length text ≤ input_limit) (sym m.0.holds) (text_short (migrated m.0.segment) legal_migrated)
 
-  pub file_accepted : (o : Outcome) (bench : Option BenchState) → RefusesBy Migrate file o bench → ⊥
-  file_accepted o bench h = never_refused file (migrated m.0.segment) file_says o bench h
+  pub file_accepted : (o : Outcome) (bench : Option BenchState) → RefusesBy Migrate file o bench → o ≡ NoMemory
+  file_accepted o bench h = only_memory file (migrated m.0.segment) file_says o h.0
 
   pub file_again : (text : List ℕ) (bench : Option BenchState) → Writes Migrate file text bench ↔ ((text ≡ file) × (bench ≡ None))
   file_again text bench =
       let s = m.0.segment in (
-        λ h. (h.0.written ∙ ap (λ t. segment_text (migrated t)) (one_segment file h.0.segment (migrated s) h.0.legal file_says) ∙ sym m.0.written, h.1),
-        λ h. (record { segment = migrated s; legal = file_says; written = h.0 ∙ m.0.written }, h.1),
+        λ h. (h.0.holds ∙ ap (λ t. segment_text (migrated t)) (one_segment file h.0.segment (migrated s) h.0.legal file_says) ∙ sym m.0.holds, h.1),
+        λ h. (record { segment = migrated s; legal = file_says; holds = h.0 ∙ m.0.holds }, h.1),
       )

@@ -1,9 +1,8 @@
 -- The run of a migrated segment, phase by phase. None of these definitions looks at the version.
-use Rattle.std.specs.Prelude.{◌≡◌, Bool, [], Option, Some, None, option_map, Ok, Err}
+use Rattle.std.specs.Prelude.{◌≡◌, [], Option, Some, None, option_map, Ok, Err}
 use Rattle.std.proofs.Common.{◌∙◌, ap, ap₂, refl}
 use Rattle.ecat_link.specs.Drive.{drive}
 use Rattle.frame_pass.specs.SegmentState.{SegmentState, segment_step}
-use Rattle.lost_step.specs.LostStep.{lost_step_of, measuring_positions, clock_positions}
 use Rattle.master_script.specs.Config.{ConfigValue}
 use Rattle.master_script.specs.Script.{Answer, Call, Commission, Settle, Arm, Run, script}
 use Rattle.segment_file.specs.Segment.{SegmentValue}
@@ -49,8 +48,3 @@ same_ran s = same_followed s (Run (frames_given s)) (armed (migrated s)) ∙ ap 
 pub same_run : (s : SegmentValue) → run_of (migrated s) ≡ run_of s
 unfolding run_of
 same_run s = ap (option_map (λ run. rounded_off s run run.answer)) (same_ran s)
-
--- the list of losses is kept, and so is the step that it takes
-pub same_losses : (s : SegmentValue) (with_arming : Bool) → lost_step_of (migrated s) with_arming ≡ lost_step_of s with_arming
-unfolding lost_step_of measuring_positions clock_positions
-same_losses s with_arming = refl

@@ -12,6 +12,7 @@ ghost use Rattle.dc_words.specs.declared.command.Command.TheVariants.{Run, Delay
 ghost use Rattle.dc_top.specs.Answers.{RefusesBy, ServedBy, Writes, input_limit};
 ghost use Rattle.dc_top.specs.CheckText.{check_text};
 ghost use Rattle.dc_top.specs.declared.outcome.Outcome.{Outcome};
+ghost use Rattle.dc_top.specs.declared.outcome.Outcome.TheVariants.{NoMemory};
 
 /// The run of a migrated segment is that of the segment: its master is told the same, its slaves begin alike, and each
 /// phase ends alike.
@@ -45,11 +46,11 @@ pub fn migrated_files_are_answered_alike()
         → ServedBy Check file o taken taken' bench ↔ ServedBy Check bytes o taken taken' bench }
 {}
 
-/// What `migrate` has written is short enough to be read again. Over it `migrate` refuses nothing, and what it writes is
-/// exactly that again.
+/// What `migrate` has written is short enough to be read again. Over it `migrate` refuses nothing, but for want of memory, and
+/// what it writes is exactly that again.
 pub fn migration_ends()
     ensures short { (bytes file : List ℕ) → Writes Migrate bytes file None → length file ≤ input_limit }
-    ensures accepted { (bytes file : List ℕ) → Writes Migrate bytes file None → (o : Outcome) (bench : Option BenchState) → RefusesBy Migrate file o bench → ⊥ }
+    ensures accepted { (bytes file : List ℕ) → Writes Migrate bytes file None → (o : Outcome) (bench : Option BenchState) → RefusesBy Migrate file o bench → o ≡ NoMemory }
     ensures same { (bytes file : List ℕ) → Writes Migrate bytes file None → (text : List ℕ) (bench : Option BenchState)
         → Writes Migrate file text bench ↔ ((text ≡ file) × (bench ≡ None)) }
 {}

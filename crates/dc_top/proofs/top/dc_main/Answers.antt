@@ -1,23 +1,9 @@
-use Rattle.std.proofs.Common.{map, string_bytes}
+use Rattle.std.proofs.Common.{map, string_bytes, sym, subst, ◌∙◌}
 use Rattle.dc_words.specs.CommandOfWords.{command_of}
-use Rattle.dc_top.specs.Bounded.{MeasuresNear}
-use Rattle.dc_top.specs.Transmissions.{Sends}
-use Rattle.dc_top.proofs.Bounded.{made_near}
+use Rattle.dc_top.specs.Answers.{DrivesWire}
 use Rattle.dc_top.proofs.Complete.{complete}
-use Rattle.dc_top.proofs.Driven.{of_its_run}
-use Rattle.dc_top.proofs.Transmissions.{made_sends}
-use Rattle.dc_top.proofs.Words.{answered_alone, answered_over}
+use Rattle.dc_top.proofs.Words.{answered_alone, answered_over, no_memory}
 use Rattle.dc_top.proofs.top.dc_main.Goals as goal
-
-pub returns-in-WholeInput-clause-delay_bound : goal.returns-in-WholeInput-clause-delay_bound
-returns-in-WholeInput-clause-delay_bound g c = of_its_run MeasuresNear made_near (map string_bytes c.args.words.now) c.answer.result _ _ _ _ c.answer.new.bench
-    (answered_over (command_of (map string_bytes c.args.words.now)) c.in-Ok.command c.in-Some.command c.in-Ok.ensures.is c.in-Some.is c.answer.result _ _ _ _ c.answer.new.bench
-    c.in-WholeInput.ensures c.answer.ensures.answered)
-
-pub returns-in-WholeInput-clause-transmissions : goal.returns-in-WholeInput-clause-transmissions
-returns-in-WholeInput-clause-transmissions g c = of_its_run Sends made_sends (map string_bytes c.args.words.now) c.answer.result _ _ _ _ c.answer.new.bench
-    (answered_over (command_of (map string_bytes c.args.words.now)) c.in-Ok.command c.in-Some.command c.in-Ok.ensures.is c.in-Some.is c.answer.result _ _ _ _ c.answer.new.bench
-    c.in-WholeInput.ensures c.answer.ensures.answered)
 
 pub returns-in-WholeInput-clause-complete : goal.returns-in-WholeInput-clause-complete
 returns-in-WholeInput-clause-complete g c = complete (command_of (map string_bytes c.args.words.now)) _ _ _ _ c.answer.new.bench c.answer.result _ _ _ _
@@ -25,12 +11,5 @@ returns-in-WholeInput-clause-complete g c = complete (command_of (map string_byt
     c.in-WholeInput.ensures c.answer.ensures.answered)
     c.answer.ensures.read_fault c.answer.ensures.write_fault
 
-pub returns-in-NoInput-clause-delay_bound : goal.returns-in-NoInput-clause-delay_bound
-returns-in-NoInput-clause-delay_bound g c = of_its_run MeasuresNear made_near (map string_bytes c.args.words.now) c.answer_alone.result (g.I.Source.left c.args.input.now) _ _ _ c.answer_alone.new.bench
-    (answered_alone (command_of (map string_bytes c.args.words.now)) c.in-Ok.command c.in-Some.command c.in-Ok.ensures.is c.in-Some.is c.in-NoInput.ensures c.answer_alone.result
-    (g.I.Source.left c.args.input.now) _ _ c.answer_alone.new.bench c.answer_alone.ensures.served)
-
-pub returns-in-NoInput-clause-transmissions : goal.returns-in-NoInput-clause-transmissions
-returns-in-NoInput-clause-transmissions g c = of_its_run Sends made_sends (map string_bytes c.args.words.now) c.answer_alone.result (g.I.Source.left c.args.input.now) _ _ _ c.answer_alone.new.bench
-    (answered_alone (command_of (map string_bytes c.args.words.now)) c.in-Ok.command c.in-Some.command c.in-Ok.ensures.is c.in-Some.is c.in-NoInput.ensures c.answer_alone.result
-    (g.I.Source.left c.args.input.now) _ _ c.answer_alone.new.bench c.answer_alone.ensures.served)
+pub returns-in-WholeInput-clause-idle : goal.returns-in-WholeInput-clause-idle
+returns-in-WholeInput-clause-idle g c = λ none. c.answer.ensures.idle (λ drives. none (subst DrivesWire (sym c.in-Some.is ∙ c.in-Ok.ensures.is) drives))
