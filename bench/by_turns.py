@@ -3,44 +3,44 @@
 Works come from standard input, a JSON object a line: `name`, `words`, and `input`, the path of a file or null. Each is done five times
 by each program, one after the other, and the least wall clock counts. A program has to end with status 0, and both have to write the same
 bytes. Prints a line for each work: seconds, the most memory (MiB), and where there is another program its seconds and the ratio. A program
-begins as a copy of this script, so less memory than the script has, some 14 MiB, is not told.
+begins as a copy of this script, so less memory than the script has, some 14 MiB, is not told; outputs go to files, so that the script does
+not grow by them.
 """
+import filecmp
 import json
 import os
 import subprocess
 import sys
+import tempfile
 import time
 
 TURNS = 5
 
 
-def done(program, words, path):
-    """The wall clock (s), the most memory (MiB) and the output of one call."""
-    source = open(path, 'rb') if path else subprocess.DEVNULL
-    start = time.monotonic()
-    child = subprocess.Popen([program, *words], stdin=source, stdout=subprocess.PIPE)
-    output = child.stdout.read()
-    _, status, usage = os.wait4(child.pid, 0)
-    seconds = time.monotonic() - start
+def done(program, words, path, output):
+    """The wall clock (s) and the most memory (MiB) of one call, which writes into the file `output`."""
+    with open(path or os.devnull, 'rb') as source, open(output, 'wb') as sink:
+        start = time.monotonic()
+        child = subprocess.Popen([program, *words], stdin=source, stdout=sink)
+        _, status, usage = os.wait4(child.pid, 0)
+        seconds = time.monotonic() - start
     if status != 0:
         sys.exit(f'bench: {program} {" ".join(words)} ended with {os.waitstatus_to_exitcode(status)}')
-    return seconds, usage.ru_maxrss / 1024, output
+    return seconds, usage.ru_maxrss / 1024
 
 
-def main():
-    programs = sys.argv[1:]
+def measure(programs, folder):
+    outputs = [os.path.join(folder, str(k)) for k in range(len(programs))]
     for line in sys.stdin:
         work = json.loads(line)
         least = [None] * len(programs)
         memory = 0
         for _ in range(TURNS):
-            outputs = []
             for k, program in enumerate(programs):
-                seconds, most, output = done(program, work['words'], work['input'])
+                seconds, most = done(program, work['words'], work['input'], outputs[k])
                 least[k] = seconds if least[k] is None else min(least[k], seconds)
                 memory = max(memory, most) if k == 0 else memory
-                outputs.append(output)
-            if any(output != outputs[0] for output in outputs):
+            if not all(filecmp.cmp(outputs[0], output, shallow=False) for output in outputs):
                 sys.exit(f'bench: {work["name"]}: the programs do not write the same')
         shown = f'{work["name"]:52} {least[0]:8.4f} s {memory:6.1f} MiB'
         if len(programs) > 1:
@@ -48,4 +48,5 @@ def main():
         print(shown, flush=True)
 
 
-main()
+with tempfile.TemporaryDirectory() as made:
+    measure(sys.argv[1:], made)
