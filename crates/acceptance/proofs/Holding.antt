@@ -10,7 +10,7 @@ use Rattle.dc_words.specs.declared.command.Command.TheVariants.{Run}
 use Rattle.segment_bench.specs.BenchRun.{HasRun}
 use Rattle.segment_file.specs.Segment.{SegmentValue}
 use Rattle.segment_file.specs.Told.{IsSegmentText}
-use Rattle.segment_file.proofs.AnswerLemmas.{one_segment}
+use Rattle.segment_file.proofs.Exported.{one_segment}
 use Rattle.acceptance.specs.Runs.{HoldsRun}
 
 -- the bytes are the text of one segment

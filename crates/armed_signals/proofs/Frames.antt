@@ -15,13 +15,11 @@ use Rattle.frame_pass.specs.FramePass.{are_latching, at_arrival, datagrams_behin
 use Rattle.frame_pass.specs.Invariants.{IsSound, IsSoundSegment}
 use Rattle.frame_pass.specs.Reach.{reach_of}
 use Rattle.frame_pass.specs.SegmentState.{SegmentState, leaves_at, segment_step}
-use Rattle.frame_pass.proofs.AtPositions.{step_reached, step_stays}
-use Rattle.frame_pass.proofs.Schedule.{is_not_sent}
+use Rattle.frame_pass.proofs.Exported.{step_reached, step_stays, is_not_sent}
 use Rattle.visit_laws.specs.Aside.{HaveSize}
 use Rattle.named_slaves.specs.Standing.{Stands}
 use Rattle.named_slaves.specs.Mindful.{AreMindful}
-use Rattle.named_slaves.proofs.Addresses.{stands_after}
-use Rattle.named_slaves.proofs.Frames.{had_before, low_where, mindful_at, same_many, stands_at}
+use Rattle.named_slaves.proofs.Exported.{stands_after, had_before, low_where, mindful_at, same_many, stands_at}
 use Rattle.honest_replies.specs.Told.{AreInOrder}
 use Rattle.armed_signals.specs.OwnSignals.{AllKeepTo, SlaveKeepsTo}
 use Rattle.armed_signals.specs.Planned.{ArePlanned}

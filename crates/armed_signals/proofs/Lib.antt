@@ -1,7 +1,8 @@
-pub mod Raising
-pub mod AtSlaves
-pub mod Activating
-pub mod OnTheWay
-pub mod Frames
-pub mod Scripts
-pub mod Runs
+mod Raising
+mod AtSlaves
+mod Activating
+mod OnTheWay
+mod Frames
+mod Scripts
+mod Runs
+pub mod Exported

@@ -14,8 +14,7 @@ use Rattle.frame_pass.specs.SlaveState.{Slave}
 use Rattle.frame_pass.specs.Advancing.{advanced_to}
 use Rattle.frame_pass.specs.Invariants.{IsSoundSegment}
 use Rattle.frame_pass.specs.SegmentState.{SegmentState, finished, segment_step}
-use Rattle.frame_pass.proofs.AtPositions.{finished_at}
-use Rattle.frame_pass.proofs.Sound.{timely_step}
+use Rattle.frame_pass.proofs.Exported.{finished_at, timely_step}
 use Rattle.sync_units.specs.declared.edge.Signal.{Signal}
 use Rattle.sync_units.specs.declared.edge.Signal.TheVariants.{Sync1}
 use Rattle.named_slaves.specs.Mindful.{AreMindful}
@@ -24,24 +23,20 @@ use Rattle.master_script.specs.Script.{Answer, Call, script}
 use Rattle.master_script.specs.Scripted.{AreScripted, more, none}
 use Rattle.master_script.specs.declared.step.Step.{Step}
 use Rattle.master_script.specs.declared.step.Step.TheVariants.{Count, Identify, Rate, Latch, Times, Set, Settle, Drift, Arm}
-use Rattle.master_script.proofs.Wants.{wants}
-use Rattle.master_script.proofs.Within.{StepWithin}
+use Rattle.master_script.proofs.Exported.{wants, StepWithin}
 use Rattle.honest_replies.specs.Told.{AreInOrder, IsNear}
-use Rattle.honest_replies.proofs.Mindful.{mindful_step}
+use Rattle.honest_replies.proofs.Exported.{mindful_step}
 use Rattle.segment_file.specs.Legal.{IsLegal}
 use Rattle.segment_file.specs.Segment.{RowValue, SegmentValue, tree_rows}
-use Rattle.segment_file.proofs.LegalLemmas.{order_many}
+use Rattle.segment_file.proofs.Exported.{order_many}
 use Rattle.segment_start.specs.Start.{slave_of, started_segment, timing_by}
-use Rattle.segment_start.proofs.Starts.{starts_timely}
+use Rattle.segment_start.proofs.Exported.{starts_timely}
 use Rattle.run_of_file.specs.MasterOfFile.{master_of, plan_of, row_of}
 use Rattle.run_of_file.specs.RunOfFile.{RunEnd, armed, commissioned, end_of_run, frames_given, ran, rounded_off, run_of, settled}
-use Rattle.run_of_file.proofs.Ending.{armed_on, commissioned_on, ran_on, settled_on}
-use Rattle.run_of_file.proofs.FromStart.{IsFromStart, armed_from, commissioned_from, ran_from, settled_from}
-use Rattle.run_of_file.proofs.InRange.{as_many_kinds, few_rows, some_rows}
+use Rattle.run_of_file.proofs.Exported.{armed_on, commissioned_on, ran_on, settled_on, IsFromStart, armed_from, commissioned_from, ran_from}
+use Rattle.run_of_file.proofs.Exported.{settled_from, as_many_kinds, few_rows, some_rows}
 use Rattle.honest_runs.specs.FileSlaves.{kind_at, status_at}
-use Rattle.honest_runs.proofs.Beginning.{begins}
-use Rattle.honest_runs.proofs.Returning.{order_stays}
-use Rattle.honest_runs.proofs.Turning.{sent_by}
+use Rattle.honest_runs.proofs.Exported.{begins, order_stays, sent_by}
 use Rattle.armed_signals.specs.OwnSignals.{AllKeepTo, KeepsTo, SlaveKeepsTo, signals_at}
 use Rattle.armed_signals.specs.Planned.{ArePlanned, plans_sync1}
 use Rattle.armed_signals.proofs.AtSlaves.{advanced_keeps}

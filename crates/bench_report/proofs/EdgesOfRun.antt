@@ -8,9 +8,9 @@ use Rattle.std.proofs.lemmas.List.FromFn.{length-range_with_len}
 use Rattle.armed_signals.specs.OwnSignals.{AllKeepTo, signals_at}
 use Rattle.edge_report.specs.Edges.{AreCounted, AreEdges, IsEdge, edges_of, is_of}
 use Rattle.edge_report.specs.declared.slave_edge.SlaveEdge.{SlaveEdge}
-use Rattle.edge_report.proofs.Sorting.{keeps_none}
+use Rattle.edge_report.proofs.Exported.{keeps_none}
 use Rattle.frame_pass.specs.SegmentState.{SegmentState}
-use Rattle.segment_bench.proofs.Wires.{IsWireOf}
+use Rattle.segment_bench.proofs.Exported.{IsWireOf}
 use Rattle.segment_file.specs.Segment.{SegmentValue}
 use Rattle.sync_units.specs.declared.edge.Edge.{Edge}
 use Rattle.sync_units.specs.declared.edge.Signal.{Signal}

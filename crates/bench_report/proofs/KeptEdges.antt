@@ -10,10 +10,10 @@ use Rattle.esc_regs.specs.declared.clock_kind.ClockKind.{ClockKind}
 use Rattle.esc_regs.specs.declared.clock_kind.ClockKind.TheVariants as kind
 use Rattle.frame_pass.specs.SegmentState.{SegmentState}
 use Rattle.frame_pass.specs.SlaveState.{FixedPart, Slave, Timing, fixed_part}
-use Rattle.segment_bench.proofs.Wires.{IsWireOf}
+use Rattle.segment_bench.proofs.Exported.{IsWireOf}
 use Rattle.segment_file.specs.Legal.{IsLegal}
 use Rattle.segment_file.specs.Segment.{RowValue, SegmentValue, tree_rows}
-use Rattle.segment_file.proofs.LegalLemmas.{order_many}
+use Rattle.segment_file.proofs.Exported.{order_many}
 use Rattle.segment_start.specs.Start.{slave_of, started_segment, timing_by}
 use Rattle.sync_units.specs.Edges.{edges_of}
 use Rattle.sync_units.specs.declared.edge.Edge.{Edge}

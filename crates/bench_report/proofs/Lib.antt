@@ -1,6 +1,7 @@
-pub mod Measured
-pub mod Lists
-pub mod Own
-pub mod KeptEdges
-pub mod EdgesOfRun
-pub mod Pieces
+mod Measured
+mod Lists
+mod Own
+mod KeptEdges
+mod EdgesOfRun
+mod Pieces
+pub mod Exported

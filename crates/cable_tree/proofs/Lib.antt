@@ -1,14 +1,15 @@
-pub mod Children
-pub mod Levels
-pub mod Rising
-pub mod Members
-pub mod Checked
-pub mod Walking
-pub mod Bounds
-pub mod Tables
-pub mod Refused
-pub mod Laps
-pub mod Inside
-pub mod Standing
-pub mod Pieces
-pub mod Renumbered
+mod Children
+mod Levels
+mod Rising
+mod Members
+mod Checked
+mod Walking
+mod Bounds
+mod Tables
+mod Refused
+mod Laps
+mod Inside
+mod Standing
+mod Pieces
+mod Renumbered
+pub mod Exported

@@ -1,1 +1,2 @@
-pub mod Rest
+mod Rest
+pub mod Exported

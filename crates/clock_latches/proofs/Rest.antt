@@ -8,8 +8,8 @@ use Rattle.dc_delay.specs.Latched.{latched}
 use Rattle.dc_delay.specs.LatchLaw.{AreOfClock, AreReadings}
 use Rattle.local_clock.specs.StepRule.{Steering, elapsed}
 use Rattle.local_clock.specs.Reading.{Clock, steering_of, ticks_to}
-use Rattle.local_clock.proofs.Steady.{rests}
-use Rattle.wrap_time.proofs.Cuts.{cut_of_cut}
+use Rattle.local_clock.proofs.Exported.{rests}
+use Rattle.wrap_time.proofs.Exported.{cut_of_cut}
 use Rattle.clock_latches.specs.AtRest.{AreLatchedAtRest, AreLatchedBy}
 
 ns_rest : (g k : ℕ) (s : Steering) → s.left ≡ pos 0 → elapsed g k s ≡ 10 * k

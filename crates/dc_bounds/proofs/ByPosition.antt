@@ -11,12 +11,11 @@ use Rattle.cable_tree.specs.declared.port.Port.TheVariants.{P1, P2, P3}
 use Rattle.cable_tree.specs.Row.{Row, IsRow, above}
 use Rattle.cable_tree.specs.Segment.{IsTree}
 use Rattle.cable_tree.specs.FrameOrder.{child, order}
-use Rattle.cable_tree.proofs.Levels.{some_same}
-use Rattle.cable_tree.proofs.Rising.{order_within}
+use Rattle.cable_tree.proofs.Exported.{some_same, order_within, above_here, children}
+use Rattle.cable_tree.proofs.Exported.{order_moved, same_row, whole}
 use Rattle.dc_bounds.specs.Weight.{measuring_step, measuring_within, measuring_parent, is_connected, has_earlier, has_later, hop_weight, hops_step, hops_within, is_leaf, weight_below, is_over_step, is_over, is_over_within, meeting_step, meeting_within, meeting, reference, weight_to, weight}
 use Rattle.dc_bounds.specs.Measurable.{branches, is_measured_step, is_measured_within, is_measurable, unmeasurable}
 use Rattle.cable_tree.specs.Positions.{IsByPosition, position_of, by_position, renumbered}
-use Rattle.cable_tree.proofs.Renumbered as same
 
 kept_some : (f : ℕ → ℕ) (o : Option ℕ) → is_some (option_map f o) ≡ is_some o
 kept_some f None = refl
@@ -30,10 +29,10 @@ module _ (rows : List Row) (tree : IsTree rows) (slaves : All IsRow rows) where
   pos = position_of rows
 
   count : length there ≡ length rows
-  count = same.whole rows tree slaves
+  count = whole rows tree slaves
 
   connected : (r : ℕ) → r < length rows → (p : Port) → is_connected there (pos r) p ≡ is_connected rows r p
-  connected r within p = ap is_some (same.children rows tree slaves r within p) ∙ kept_some pos (child rows r p)
+  connected r within p = ap is_some (children rows tree slaves r within p) ∙ kept_some pos (child rows r p)
 
   abbrev moved : Above → Above
   moved a = record { row = pos a.row; port = a.port }
@@ -71,7 +70,7 @@ module _ (rows : List Row) (tree : IsTree rows) (slaves : All IsRow rows) where
           let yes : nat_eq (pos q) (pos r) ≡ true = search (rules, nat_tests) in
           absurd (false≢true (sym d ∙ yes))
       by false e true d =
-          let is : q ≡ r = same.same_row rows tree slaves q r lq lr (eqb-true (pos q) (pos r) d) in
+          let is : q ≡ r = same_row rows tree slaves q r lq lr (eqb-true (pos q) (pos r) d) in
           let yes : nat_eq q r ≡ true = search (rules, nat_tests) in
           absurd (false≢true (sym e ∙ yes))
 
@@ -95,7 +94,7 @@ module _ (rows : List Row) (tree : IsTree rows) (slaves : All IsRow rows) where
     unfolding measuring_within
     measuring_levels zero r within = refl
     measuring_levels (suc s) r within =
-        ap (measuring_step at_place (measuring_within there at_place s)) (same.above_here rows tree slaves r within)
+        ap (measuring_step at_place (measuring_within there at_place s)) (above_here rows tree slaves r within)
         ∙ measuring_at (measuring_within there at_place s) (measuring_within rows measures s) (above rows r)
         (λ a e. let low = tree.parents r a within e in (low, measuring_levels s a.row low))
 
@@ -133,7 +132,7 @@ module _ (rows : List Row) (tree : IsTree rows) (slaves : All IsRow rows) where
     unfolding is_measured_within
     measured_levels zero r within = refl
     measured_levels (suc s) r within =
-        ap (is_measured_step at_place (branches there) (is_measured_within there at_place s)) (same.above_here rows tree slaves r within)
+        ap (is_measured_step at_place (branches there) (is_measured_within there at_place s)) (above_here rows tree slaves r within)
         ∙ leads_at (is_measured_within there at_place s) (is_measured_within rows measures s) (above rows r)
         (λ a e. let low = tree.parents r a within e in (low, measured_levels s a.row low))
 
@@ -235,7 +234,7 @@ module _ (rows : List Row) (tree : IsTree rows) (slaves : All IsRow rows) where
         ∙ find_step x (pos x) (test x) (find test xs) (find test' (map pos xs)) refl (find_map xs (rest_rows x xs h))
 
   pub reference_here : (timed clocks : ℕ → Bool) → IsByPosition rows timed clocks → reference there clocks ≡ option_map pos (reference rows timed)
-  reference_here timed clocks alike = ap (find clocks) (same.order_moved rows tree slaves) ∙ find_map timed clocks alike (order rows) (order_within rows tree slaves)
+  reference_here timed clocks alike = ap (find clocks) (order_moved rows tree slaves) ∙ find_map timed clocks alike (order rows) (order_within rows tree slaves)
 
   -- the first slave that cannot be measured
   module _ (measures at_place : ℕ → Bool) (alike : IsByPosition rows measures at_place)
@@ -270,7 +269,7 @@ module _ (rows : List Row) (tree : IsTree rows) (slaves : All IsRow rows) where
   pub unmeasurable_here : (measures at_place : ℕ → Bool) → IsByPosition rows measures at_place
       → unmeasurable there at_place (order there) ≡ option_map pos (unmeasurable rows measures (order rows))
   unmeasurable_here measures at_place alike =
-      ap (unmeasurable there at_place) (same.order_moved rows tree slaves)
+      ap (unmeasurable there at_place) (order_moved rows tree slaves)
       ∙ but_first measures at_place alike (λ r. not (is_measurable rows measures r)) (λ r. not (is_measurable there at_place r))
       (λ r within. ap not (measured_here measures at_place alike r within)) (order rows) (order_within rows tree slaves)
 

@@ -7,8 +7,7 @@ use Rattle.cable_tree.specs.Row.{Row, IsRow}
 use Rattle.cable_tree.specs.Segment.{IsTree}
 use Rattle.cable_tree.specs.FrameOrder.{order}
 use Rattle.cable_tree.specs.PathSums.{arrive}
-use Rattle.cable_tree.proofs.Rising.{order_pair, order_within}
-use Rattle.cable_tree.proofs.Members.{place_of}
+use Rattle.cable_tree.proofs.Exported.{order_pair, order_within, place_of}
 use Rattle.dc_bounds.specs.Weight.{reference}
 
 -- the first element that passes, with those before it

@@ -4,7 +4,7 @@ use Rattle.std.proofs.Common.{arith, ap, sym, ◌∙◌, refl}
 use Rattle.std.proofs.lemmas.Nat.{le-div}
 use Rattle.std.proofs.Math.Nat.{mul-le-mul_right, div-lt_iff_lt-mul}
 use Rattle.osc_clock.specs.Ticks.{Oscillator, IsRunning, ticks}
-use Rattle.osc_clock.proofs.TickLaws.{not_too_many, not_too_few}
+use Rattle.osc_clock.proofs.Exported.{not_too_many, not_too_few}
 use Rattle.dc_bounds.specs.TickBounds.{tick_fs, tolerance, least_ticks}
 use Rattle.dc_bounds.specs.TickFacts.{IsWithin, AreTicksOf}
 

@@ -1,13 +1,14 @@
-pub mod Sizes
-pub mod IntervalFacts
-pub mod Growth
-pub mod Climbing
-pub mod Upwards
-pub mod ByPosition
-pub mod WeightSize
-pub mod Leading
-pub mod Locking
-pub mod RunLength
-pub mod Weightless
-pub mod FirstClock
-pub mod Staying
+mod Sizes
+mod IntervalFacts
+mod Growth
+mod Climbing
+mod Upwards
+mod ByPosition
+mod WeightSize
+mod Leading
+mod Locking
+mod RunLength
+mod Weightless
+mod FirstClock
+mod Staying
+pub mod Exported

@@ -14,7 +14,7 @@ use Rattle.dc_bounds.specs.Weight.{measuring_parent, hop_weight, hops_within, is
 use Rattle.dc_delay.specs.ShapeRows.{tp_ns, tf_ns}
 use Rattle.dc_delay.specs.MeasuredDelay.{ahead, back, hop_ahead, hop_back, latched_before, forwarding_ns, passed, summed_step, turn}
 use Rattle.dc_delay.specs.LatchLaw.{AreAllLatched, AreMeasurable}
-use Rattle.dc_bounds.proofs.Upwards.{parent_measures, parent_within}
+use Rattle.dc_bounds.proofs.Exported.{parent_measures, parent_within}
 use Rattle.dc_delay.proofs.Recursions.{climb_measuring, hops_is, over_is, summed_is}
 use Rattle.dc_delay.proofs.TrueHops.{port_used, hopped}
 use Rattle.dc_delay.proofs.HopErrors.{hop_error, turn_near, turned, spanned, near_same}

@@ -10,17 +10,15 @@ use Rattle.cable_tree.specs.Segment.{IsTree}
 use Rattle.cable_tree.specs.FrameOrder.{order}
 use Rattle.cable_tree.specs.PathSums.{arrive, round_trip}
 use Rattle.cable_tree.specs.Positions.{IsByPosition, places, placed, position_of, renumbered}
-use Rattle.cable_tree.proofs.Levels.{none_some}
-use Rattle.cable_tree.proofs.Members.{order_whole}
-use Rattle.cable_tree.proofs.Rising.{order_within}
-use Rattle.cable_tree.proofs.Renumbered as same
-use Rattle.cable_tree.proofs.Standing.{position_at, row_within}
+use Rattle.cable_tree.proofs.Exported.{none_some, order_whole, order_within, are_slaves, arrive_here}
+use Rattle.cable_tree.proofs.Exported.{is_tree, order_here, places_kept}
+use Rattle.cable_tree.proofs.Exported.{round_trip_here, whole as same_whole, position_at, row_within}
 use Rattle.dc_bounds.specs.DelayBound.{delay_bound}
 use Rattle.dc_bounds.specs.Measurable.{unmeasurable}
 use Rattle.dc_bounds.specs.TickBounds.{tick_gap}
 use Rattle.dc_bounds.specs.TickFacts.{IsNear}
 use Rattle.dc_bounds.specs.Weight.{reference, weight}
-use Rattle.dc_bounds.proofs.ByPosition.{find_low, unmeasurable_here, reference_here, weight_here}
+use Rattle.dc_bounds.proofs.Exported.{find_low, unmeasurable_here, reference_here, weight_here}
 use Rattle.dc_delay.specs.declared.error.DelayError.{DelayError}
 use Rattle.dc_delay.specs.declared.error.DelayError.TheVariants.{NoReference, Unmeasurable}
 use Rattle.dc_delay.specs.LatchLaw.{AreOfClock, AreLatched, AreAllLatched}
@@ -48,14 +46,14 @@ module _ (rows : List Row) (tree : IsTree rows) (slaves : All IsRow rows) where
   count = length-map (order rows) (placed rows) ∙ order_whole rows tree slaves
 
   in_order : positions (length (places rows)) ≡ order there
-  in_order = ap positions count ∙ sym (same.order_here rows tree slaves)
+  in_order = ap positions count ∙ sym (order_here rows tree slaves)
 
   pub reference_at : (timed clocks : ℕ → Bool) → IsByPosition rows timed clocks → first_timed (places rows) clocks ≡ option_map pos (reference rows timed)
   reference_at timed clocks alike = ap (find clocks) in_order ∙ reference_here rows tree slaves timed clocks alike
 
   pub unmeasurable_at : (measures m : ℕ → Bool) → IsByPosition rows measures m → first_unmeasurable (places rows) m ≡ option_map pos (unmeasurable rows measures (order rows))
   unmeasurable_at measures m alike =
-      ap (λ ps. unmeasurable (hanging ps) m (positions (length (places rows)))) (sym (same.places_kept rows))
+      ap (λ ps. unmeasurable (hanging ps) m (positions (length (places rows)))) (sym (places_kept rows))
       ∙ shape_unmeasurable there m (positions (length (places rows)))
       ∙ ap (unmeasurable there m) in_order
       ∙ unmeasurable_here rows tree slaves measures m alike
@@ -73,7 +71,7 @@ module _ (rows : List Row) (tree : IsTree rows) (slaves : All IsRow rows) where
       (first : ℕ) (is_first : reference rows timed ≡ Some first) (laps : ℕ → Port → ℕ) (ppm : ℕ) (small : ppm ≤ 100) (short : round_trip rows < 10 ^ 13)
       (readings : (r : ℕ) → r < length rows → measures r ≡ true → AreOfClock there ppm (pos r) laps) where
     whole : length there ≡ length rows
-    whole = same.whole rows tree slaves
+    whole = same_whole rows tree slaves
 
     -- the row at a position
     abbrev row : ℕ → ℕ
@@ -100,8 +98,8 @@ module _ (rows : List Row) (tree : IsTree rows) (slaves : All IsRow rows) where
     latched p low measures_there =
         let q = row p in
         let h = readings q (row_low p low) (sym (alike q (row_low p low)) ∙ ap m (back p low) ∙ measures_there) in
-        let trip = same.round_trip_here rows tree slaves in
-        let near = readings_are_latched there h.osc ppm h.stood h.time (pos q) laps (same.is_tree rows tree slaves) (same.are_slaves rows tree slaves)
+        let trip = round_trip_here rows tree slaves in
+        let near = readings_are_latched there h.osc ppm h.stood h.time (pos q) laps (is_tree rows tree slaves) (are_slaves rows tree slaves)
         (there_low q (row_low p low)) h.runs small h.steady (omega (arith, short, trip)) h.readings in
         subst (λ x. AreLatched there (tick_gap ppm (round_trip there)) x laps) (back p low) near
 
@@ -113,7 +111,7 @@ module _ (rows : List Row) (tree : IsTree rows) (slaves : All IsRow rows) where
 
     told_is : (r : ℕ) → told r ≡ delay there m t laps (order there) (pos r)
     told_is r =
-        ap (λ ps. delay (rows_of ps (kinds_of there)) m t laps (positions (length (places rows))) (pos r)) (sym (same.places_kept rows))
+        ap (λ ps. delay (rows_of ps (kinds_of there)) m t laps (positions (length (places rows))) (pos r)) (sym (places_kept rows))
         ∙ shape_delay there m t laps (positions (length (places rows))) (pos r)
         ∙ ap (λ o. delay there m t laps o (pos r)) in_order
 
@@ -121,10 +119,10 @@ module _ (rows : List Row) (tree : IsTree rows) (slaves : All IsRow rows) where
         → (d : ℕ) × (slice_index_or (delay_list shape m t laps (positions (length (places rows)))) (pos r) None ≡ Some d)
         × IsNear (1000000 * d) (arrive rows r - arrive rows first) (delay_bound ppm (weight rows measures timed r) (round_trip rows))
     near_at r within is =
-        let trip = same.round_trip_here rows tree slaves in
+        let trip = round_trip_here rows tree slaves in
         let none' : unmeasurable there m (order there) ≡ None = unmeasurable_here rows tree slaves measures m alike ∙ ap (option_map pos) none in
         let first' : reference there t ≡ Some (pos first) = reference_here rows tree slaves timed t clocks ∙ ap (option_map pos) is_first in
-        let n = bounded there (same.is_tree rows tree slaves) (same.are_slaves rows tree slaves) m none' t clock_measures (pos first) first' laps ppm latched (pos r)
+        let n = bounded there (is_tree rows tree slaves) (are_slaves rows tree slaves) m none' t clock_measures (pos first) first' laps ppm latched (pos r)
         (there_low r within) (clocks r within ∙ is) in
         let first_low : first < length rows = find_low rows tree slaves timed (order rows) (order_within rows tree slaves) first is_first in
         let low : pos r < length (places rows) = (let k = count in let l = row_within rows tree slaves r within in omega (arith, k, l)) in (
@@ -133,7 +131,7 @@ module _ (rows : List Row) (tree : IsTree rows) (slaves : All IsRow rows) where
           moved (delay there m t laps (order there) (pos r)) (told r)
               (arrive there (pos r)) (arrive rows r) (arrive there (pos first)) (arrive rows first)
               (delay_bound ppm (weight there m t (pos r)) (round_trip there)) (delay_bound ppm (weight rows measures timed r) (round_trip rows))
-              (told_is r) (sym (same.arrive_here rows tree slaves r within)) (sym (same.arrive_here rows tree slaves first first_low))
+              (told_is r) (sym (arrive_here rows tree slaves r within)) (sym (arrive_here rows tree slaves first first_low))
               (ap (λ w. delay_bound ppm w (round_trip rows)) (sym (weight_here rows tree slaves measures m timed t alike clocks r within))
               ∙ ap (delay_bound ppm (weight there m t (pos r))) (sym trip))
               n,

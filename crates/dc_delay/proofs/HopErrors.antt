@@ -9,8 +9,7 @@ use Rattle.cable_tree.specs.Segment.{IsTree}
 use Rattle.cable_tree.specs.FrameOrder.{child}
 use Rattle.cable_tree.specs.PathSums.{span, detour_to}
 use Rattle.cable_tree.specs.Hops.{or_before, previous, last_port, lap, lap_before}
-use Rattle.cable_tree.proofs.Laps.{span_of_laps}
-use Rattle.cable_tree.proofs.Levels.{span_is, none_some}
+use Rattle.cable_tree.proofs.Exported.{span_of_laps, span_is, none_some}
 use Rattle.dc_bounds.specs.TickFacts.{IsNear}
 use Rattle.dc_bounds.specs.Weight.{hop_weight, is_leaf}
 use Rattle.dc_delay.specs.ShapeRows.{tf_ns}

@@ -1,15 +1,16 @@
-pub mod Climbing
-pub mod Finding
-pub mod Hung
-pub mod Tables
-pub mod Recursions
-pub mod TrueHops
-pub mod HopErrors
-pub mod Alike
-pub mod NearDelays
-pub mod Order
-pub mod Readings
-pub mod AddedUp
-pub mod Listing
-pub mod Gathered
-pub mod ByPosition
+mod Climbing
+mod Finding
+mod Hung
+mod Tables
+mod Recursions
+mod TrueHops
+mod HopErrors
+mod Alike
+mod NearDelays
+mod Order
+mod Readings
+mod AddedUp
+mod Listing
+mod Gathered
+mod ByPosition
+pub mod Exported

@@ -11,18 +11,15 @@ use Rattle.cable_tree.specs.Row.{Row, IsRow}
 use Rattle.cable_tree.specs.Segment.{IsTree}
 use Rattle.cable_tree.specs.FrameOrder.{order}
 use Rattle.cable_tree.specs.PathSums.{arrive, round_trip}
-use Rattle.cable_tree.proofs.Rising.{order_pair}
-use Rattle.cable_tree.proofs.Members.{place_of}
+use Rattle.cable_tree.proofs.Exported.{order_pair, place_of}
 use Rattle.dc_bounds.specs.DelayBound.{delay_bound}
 use Rattle.dc_bounds.specs.TickBounds.{tick_gap}
 use Rattle.dc_bounds.specs.TickFacts.{IsNear}
 use Rattle.dc_bounds.specs.Weight.{measuring_parent, is_over, is_over_step, meeting_step, meeting, reference, weight, weight_below, weight_to}
 use Rattle.dc_bounds.specs.Measurable.{unmeasurable}
-use Rattle.dc_bounds.proofs.FirstClock.{reference_within, reference_timed, reference_first}
-use Rattle.dc_bounds.proofs.Weightless.{weightless}
+use Rattle.dc_bounds.proofs.Exported.{reference_within, reference_timed, reference_first, weightless, parent_measures}
 use Rattle.dc_delay.specs.MeasuredDelay.{ahead, back, delay, delay_from}
 use Rattle.dc_delay.specs.LatchLaw.{AreAllLatched}
-use Rattle.dc_bounds.proofs.Upwards.{parent_measures}
 use Rattle.dc_delay.proofs.Recursions.{climb_measuring, over_is, meeting_is}
 use Rattle.dc_delay.proofs.AddedUp.{weighed}
 use Rattle.dc_delay.proofs.Order.{has_parent, measurable_after, are_measurable}

@@ -8,14 +8,11 @@ use Rattle.cable_tree.specs.Row.{Row, IsRow, above}
 use Rattle.cable_tree.specs.Segment.{IsTree}
 use Rattle.cable_tree.specs.FrameOrder.{order}
 use Rattle.cable_tree.specs.PathSums.{arrive}
-use Rattle.cable_tree.proofs.Children.{child_is}
-use Rattle.cable_tree.proofs.Levels.{arrive_at_child}
-use Rattle.cable_tree.proofs.Rising.{order_pair, tp_some}
-use Rattle.cable_tree.proofs.Members.{place_of}
+use Rattle.cable_tree.proofs.Exported.{child_is, arrive_at_child, order_pair, tp_some, place_of}
 use Rattle.dc_bounds.specs.Weight.{measuring_step, measuring_parent}
 use Rattle.dc_bounds.specs.Measurable.{branches, is_measured_step, is_measurable, unmeasurable}
 use Rattle.dc_delay.specs.LatchLaw.{AreMeasurable}
-use Rattle.dc_bounds.proofs.Upwards.{parent_measures, parent_within}
+use Rattle.dc_bounds.proofs.Exported.{parent_measures, parent_within}
 use Rattle.dc_delay.proofs.Recursions.{climb_above, measuring_is, measured_is}
 
 module _ (measures test : ℕ → Bool) where

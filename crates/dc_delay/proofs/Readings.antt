@@ -9,14 +9,13 @@ use Rattle.cable_tree.specs.Segment.{IsTree}
 use Rattle.cable_tree.specs.FrameOrder.{child}
 use Rattle.cable_tree.specs.PathSums.{round_trip}
 use Rattle.cable_tree.specs.Hops.{lap}
-use Rattle.cable_tree.proofs.Inside.{lap_inside}
-use Rattle.wrap_time.proofs.Cuts.{latched_difference}
+use Rattle.cable_tree.proofs.Exported.{lap_inside}
+use Rattle.wrap_time.proofs.Exported.{latched_difference}
 use Rattle.osc_clock.specs.Ticks.{Oscillator, IsRunning, ticks}
-use Rattle.osc_clock.proofs.TickLaws.{ticks_rise}
+use Rattle.osc_clock.proofs.Exported.{ticks_rise}
 use Rattle.dc_bounds.specs.TickBounds.{tick_gap}
 use Rattle.dc_bounds.specs.TickFacts.{IsNear, IsWithin}
-use Rattle.dc_bounds.proofs.Growth.{tick_gap_rises, tick_gap_near}
-use Rattle.dc_bounds.proofs.IntervalFacts.{ticks_in_interval}
+use Rattle.dc_bounds.proofs.Exported.{tick_gap_rises, tick_gap_near, ticks_in_interval}
 use Rattle.dc_delay.specs.Latched.{latched}
 use Rattle.dc_delay.specs.LatchLaw.{AreLatched, AreReadings}
 

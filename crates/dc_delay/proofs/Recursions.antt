@@ -7,7 +7,7 @@ use Rattle.cable_tree.specs.Segment.{IsTree, LeadsToRoot}
 use Rattle.dc_bounds.specs.Weight.{measuring_step, measuring_within, measuring_parent, hop_weight, hops_step, hops_within, is_over_step, is_over, is_over_within, meeting_step, meeting_within}
 use Rattle.dc_bounds.specs.Measurable.{branches, is_measured_step, is_measured_within, is_measurable}
 use Rattle.dc_delay.specs.MeasuredDelay.{passed_step, passed_within, summed_step, summed_within}
-use Rattle.dc_bounds.proofs.Upwards.{lower_above, lower_measuring, none_leads, parent_within}
+use Rattle.dc_bounds.proofs.Exported.{lower_above, lower_measuring, none_leads, parent_within}
 
 -- climbing by some parent of each row
 module _ (rows : List Row) (parent : ℕ → Option Above)

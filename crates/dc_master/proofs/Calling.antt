@@ -2,7 +2,7 @@
 use Rattle.std.proofs.Common.{◌≡◌, ℕ, List, [], Option, Some, None, Ok, Err}
 use Rattle.ecat_link.specs.Exchanges.{Exchange, StepOf}
 use Rattle.ecat_link.specs.Serves.{Serves}
-use Rattle.ecat_link.proofs.Serving.{serves_weaker}
+use Rattle.ecat_link.proofs.Exported.{serves_weaker}
 use Rattle.dc_master.specs.Inside.{kept}
 use Rattle.dc_master.specs.Places.{AtRest, HasRefused, IsFresh, IsReady}
 use Rattle.master_steps.specs.Asking.{Asks, stood}

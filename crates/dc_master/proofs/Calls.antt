@@ -18,9 +18,7 @@ use Rattle.master_script.specs.declared.step.Refusal.{Refusal}
 use Rattle.master_script.specs.declared.step.Stage.{Stage}
 use Rattle.master_script.specs.declared.step.Stage.TheVariants as stage
 use Rattle.master_script.specs.declared.step.Step.TheVariants.{Arm as ArmStep}
-use Rattle.master_script.proofs.Counts.{fresh_pins}
-use Rattle.master_script.proofs.Ends.{ends_at}
-use Rattle.master_script.proofs.Pins.{armed_pins, commissioned_pins, settled_pins}
+use Rattle.master_script.proofs.Exported.{fresh_pins, ends_at, armed_pins, commissioned_pins, settled_pins}
 
 -- a refusal ends any call
 kept_path : (cfg : ConfigValue) (s s' : Stage) (o o' : Option Refusal) (a a' b b' c c' : ℕ) (w w' : Words) (ds ds' : List (Option ℕ)) (t t' : Option ℕ)

@@ -22,7 +22,7 @@ use Rattle.master_script.specs.declared.step.Step.TheVariants.{Drift}
 use Rattle.master_steps.specs.Asking.{IsCauseAt}
 use Rattle.master_steps.specs.declared.exchange.Counters.{Counters}
 use Rattle.dc_master.proofs.Driving.{drift_is}
-use Rattle.master_steps.proofs.Causes.{OfStep, names, reply_causes}
+use Rattle.master_steps.proofs.Exported.{OfStep, names, reply_causes}
 
 -- the cause of a refused drift frame
 drift_by : (cfg : ConfigValue) (call : Call) (k : ℕ) (w : Words) (r : Refusal) → IsJudgedIn call k (Drift k) → OfStep (Drift k) r → IsCauseAt cfg w (Drift k) r → IsCause cfg call k w r

@@ -5,14 +5,13 @@ use Rattle.ecat_frame.specs.Built.{built}
 use Rattle.ecat_frame.specs.FrameGrammar.{FrameValue}
 use Rattle.ecat_link.specs.Exchanges.{Exchange, StepOf, Follows}
 use Rattle.ecat_link.specs.Serves.{Serves}
-use Rattle.ecat_link.proofs.Serving.{serves_weaker}
+use Rattle.ecat_link.proofs.Exported.{serves_weaker}
 use Rattle.dc_master.specs.Places.{AtRest, HasRefused, IsReady, IsTimed}
 use Rattle.master_steps.specs.Asking.{one_sent, stood}
 use Rattle.master_steps.specs.declared.exchange.Counters.{Counters}
 use Rattle.dc_master.proofs.Parts.{refused_part}
-use Rattle.master_steps.proofs.Shapes.{never_lost}
+use Rattle.master_steps.proofs.Exported.{never_lost, sent_of}
 use Rattle.dc_master.proofs.Times.{shown_behind}
-use Rattle.master_steps.proofs.Trying.{sent_of}
 use Rattle.master_script.specs.Config.{ConfigValue, settle_frames}
 use Rattle.master_script.specs.Frames.{drift_datagrams}
 use Rattle.master_script.specs.Judged.{judged}
@@ -26,7 +25,7 @@ use Rattle.master_script.specs.declared.step.Refusal.{Refusal}
 use Rattle.master_script.specs.declared.step.Refusal.TheVariants.{Lost}
 use Rattle.master_script.specs.declared.step.Step.{Step}
 use Rattle.master_script.specs.declared.step.Step.TheVariants.{Drift, Settle}
-use Rattle.master_script.proofs.Drifts.{AtSettle, run_at, run_one_more, settle_at, settle_came, settle_lost}
+use Rattle.master_script.proofs.Exported.{AtSettle, run_at, run_one_more, settle_at, settle_came, settle_lost}
 
 pub drift_is : (cfg : ConfigValue) (w : Words) (k : ℕ) (sent : FrameValue) → sent ≡ built (drift_datagrams (reference_of w)) → sent ≡ frame_of cfg w (Drift k)
 unfolding frame_of

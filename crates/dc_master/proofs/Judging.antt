@@ -20,8 +20,8 @@ use Rattle.dc_delay.specs.MeasuredDelay.{delay_list}
 use Rattle.master_script.specs.declared.step.Refusal.{Refusal}
 use Rattle.master_script.specs.declared.step.Refusal.TheVariants.{Lost, NoReference, Unmeasurable}
 use Rattle.master_script.specs.declared.step.Step.{Step}
-use Rattle.master_steps.proofs.Left.{flag_at}
-use Rattle.master_script.proofs.Trees.{tree_listed, tree_refused}
+use Rattle.master_steps.proofs.Exported.{flag_at}
+use Rattle.master_script.proofs.Exported.{tree_listed, tree_refused}
 
 module _ (ss : List ℕ) (out : List Place) (result : Result (Unit {0}) TopologyError)
     (only : (hung : List Place) → Lists ss hung → (result ≡ Ok tt) × (out ≡ hung)) (exactly : (e : TopologyError) → IsRefused ss e → result ≡ Err e) where

@@ -10,7 +10,7 @@ use Rattle.master_script.specs.Script.{Answer, Call, script}
 use Rattle.master_script.specs.Scripted.{AreScripted, IsLimited, none}
 use Rattle.master_script.specs.declared.step.Stage.{Stage}
 use Rattle.master_script.specs.declared.step.Stage.TheVariants as stage
-use Rattle.master_script.proofs.Limits.{calls_scripted}
+use Rattle.master_script.proofs.Exported.{calls_scripted}
 
 -- one that has made nothing
 pub stands_fresh : (m : Kept) → m.stage ≡ stage.Fresh → StandsFor None m [] → Stands m

@@ -3,11 +3,11 @@ use Rattle.std.proofs.Common.{◌≡◌, ℕ, suc, ◌+◌, ◌-◌, ◌<◌, �
 use Rattle.std.specs.List.{list_any, range_with_len}
 use Rattle.ecat_link.specs.Exchanges.{Exchange, StepOf}
 use Rattle.ecat_link.specs.Serves.{Serves}
-use Rattle.ecat_link.proofs.Serving.{serves_then, serves_weaker}
+use Rattle.ecat_link.proofs.Exported.{serves_then, serves_weaker}
 use Rattle.dc_master.specs.Places.{HasRefused}
 use Rattle.master_steps.specs.Asking.{AfterStep, Asks, IsRefused, call_of, phase_of}
 use Rattle.master_steps.specs.declared.exchange.Counters.{Counters}
-use Rattle.master_steps.proofs.Left.{left, left_yes, left_no}
+use Rattle.master_steps.proofs.Exported.{left, left_yes, left_no}
 use Rattle.master_script.specs.Config.{ConfigValue}
 use Rattle.master_script.specs.Kept.{has_delays, is_times}
 use Rattle.master_script.specs.Progress.{Phase, Progress}

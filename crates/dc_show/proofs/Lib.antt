@@ -1,6 +1,7 @@
-pub mod Texts
-pub mod Passing
-pub mod Continuing
-pub mod Digits
-pub mod OneLine
-pub mod OneAnswer
+mod Texts
+mod Passing
+mod Continuing
+mod Digits
+mod OneLine
+mod OneAnswer
+pub mod Exported

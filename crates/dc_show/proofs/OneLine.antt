@@ -8,8 +8,7 @@ use Rattle.hex.specs.Hex.{decode_of}
 use Rattle.hex.specs.declared.error.FromHexError.{FromHexError}
 use Rattle.ecat_frame.specs.FrameGrammar.{FrameValue, spelling}
 use Rattle.ecat_frame.specs.Faults.{IsFault}
-use Rattle.ecat_frame.proofs.FaultFacts.{fault_no_frame, fault_unique}
-use Rattle.ecat_frame.proofs.Injective.{spelling-injective}
+use Rattle.ecat_frame.proofs.Exported.{fault_no_frame, fault_unique, spelling-injective}
 use Rattle.dc_show.specs.FrameText.{frame_text}
 use Rattle.dc_show.specs.Shown.{IsFrameIn, ShowsLine, IsLineFault, RefusesLine, IsOneLine, IsFirstLine}
 use Rattle.dc_show.specs.declared.error.FrameFault.{FrameFault}

@@ -1,11 +1,10 @@
 -- What is known of a bench that has made its run.
 use Rattle.std.proofs.Common.{◌≡◌, ◌∙◌, ℕ, ◌≤◌, Option, Some, None, Ok, Err, ap, refl, sym, subst}
 use Rattle.std.specs.Prelude.{false}
-use Rattle.bench_report.proofs.Measured.{commissioned_delays, run_delays}
+use Rattle.bench_report.proofs.Exported.{commissioned_delays, run_delays}
 use Rattle.dc_bench.specs.BenchState.{BenchState}
 use Rattle.delay_law.specs.NearDelays.{AreNear}
-use Rattle.delay_law.proofs.Near.{commissioned_near}
-use Rattle.delay_law.proofs.Staying.{later_near, whole_near}
+use Rattle.delay_law.proofs.Exported.{commissioned_near, later_near, whole_near}
 use Rattle.edge_report.specs.Delays.{AreDelays}
 use Rattle.frame_pass.specs.SegmentState.{SegmentState}
 use Rattle.lost_step.specs.LostStep.{lost_step_of}
@@ -15,16 +14,14 @@ use Rattle.master_script.specs.declared.step.MasterError.{MasterError}
 use Rattle.master_script.specs.declared.step.MasterError.TheVariants.{Refused}
 use Rattle.master_script.specs.declared.step.Refusal.TheVariants.{Lost as LostStep}
 use Rattle.master_script.specs.declared.step.Step.{Step}
-use Rattle.master_script.proofs.Counts.{kept_counts}
-use Rattle.run_answers.proofs.Premise.{honest_replies}
-use Rattle.run_answers.proofs.Whole.{whole_answers, whole_follows}
-use Rattle.run_counts.proofs.AtEnd.{commissioning_few, delays_at_end, whole_few}
-use Rattle.run_counts.proofs.Counting.{whole_counted}
+use Rattle.master_script.proofs.Exported.{kept_counts}
+use Rattle.run_answers.proofs.Exported.{honest_replies, whole_answers, whole_follows}
+use Rattle.run_counts.proofs.Exported.{commissioning_few, delays_at_end, whole_few, whole_counted}
 use Rattle.run_of_file.specs.AtEnd.{IsAtEnd}
 use Rattle.run_of_file.specs.MasterOfFile.{master_of}
 use Rattle.run_of_file.specs.RunOfFile.{RunEnd, armed, commissioned, followed_by, frames_given, ran, run_of, settled}
 use Rattle.run_schedule.specs.Answers.{answer_for}
-use Rattle.run_schedule.proofs.Joined.{commissioned_answers}
+use Rattle.run_schedule.proofs.Exported.{commissioned_answers}
 use Rattle.segment_bench.specs.BenchRun.{HasRun}
 use Rattle.segment_file.specs.Legal.{IsLegal}
 use Rattle.segment_file.specs.Segment.{SegmentValue}

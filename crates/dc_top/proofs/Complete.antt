@@ -3,11 +3,11 @@ use Rattle.std.proofs.Common.{◌≡◌, ◌∙◌, ℕ, List, [], Option, Some,
 use Rattle.std.specs.Prelude.{◌⊎◌}
 use Rattle.dc_bench.specs.BenchState.{BenchState}
 use Rattle.dc_show.specs.Shown.{Shows}
-use Rattle.dc_show.proofs.OneAnswer.{text_or_refusal}
+use Rattle.dc_show.proofs.Exported.{text_or_refusal}
 use Rattle.lost_step.specs.LostStep.{lost_step_of}
 use Rattle.segment_file.specs.Segment.{SegmentValue}
 use Rattle.segment_file.specs.Told.{IsSegmentText}
-use Rattle.segment_file.proofs.AnswerLemmas.{one_segment}
+use Rattle.segment_file.proofs.Exported.{one_segment}
 use Rattle.dc_base.specs.Causes.{Rose}
 use Rattle.dc_top.specs.Answers.{Answered, AnsweredAlone, AnsweredIn, AnsweredOver, RefusesBy, RefusesDriven, RefusesLines, RefusesRun, reading}
 use Rattle.dc_top.specs.Complete.{HasGoodBytes, IsGood, IsServable, IsServedBy, RunsThrough}

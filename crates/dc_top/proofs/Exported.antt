@@ -8,7 +8,7 @@ use Rattle.segment_file.specs.Legal.{IsLegal}
 use Rattle.segment_file.specs.Segment.{SegmentValue}
 use Rattle.segment_file.specs.Told.{IsSegmentText}
 use Rattle.segment_file.specs.declared.seg_error.SegError.TheVariants as error
-use Rattle.segment_file.proofs.AnswerLemmas.{legal_unrefused}
+use Rattle.segment_file.proofs.Exported.{legal_unrefused}
 use Rattle.dc_top.specs.Answers.{RefusesFile}
 use Rattle.dc_top.specs.Runs.{HasMade, IsLostBy, IsReportOf, text_of}
 use Rattle.dc_top.specs.SegFaults.{error_of}

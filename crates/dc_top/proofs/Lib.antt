@@ -1,5 +1,5 @@
-pub mod Behind
+mod Behind
 pub mod Exported
-pub mod Serving
-pub mod Complete
-pub mod Words
+mod Serving
+mod Complete
+mod Words

@@ -1,3 +1,4 @@
-pub mod Walking
-pub mod Steps
-pub mod Outcomes
+mod Walking
+mod Steps
+mod Outcomes
+pub mod Exported

@@ -1,3 +1,4 @@
-pub mod Readings
-pub mod Near
-pub mod Staying
+mod Readings
+mod Near
+mod Staying
+pub mod Exported

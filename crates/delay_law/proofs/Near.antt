@@ -9,7 +9,7 @@ use Rattle.cable_tree.specs.FrameOrder.{order}
 use Rattle.cable_tree.specs.PathSums.{arrive, round_trip}
 use Rattle.cable_tree.specs.Positions.{IsByPosition, places, position_of, renumbered, renumbered_row}
 use Rattle.cable_tree.specs.Row.{Row, row_at as tree_row_at}
-use Rattle.cable_tree.proofs.Standing.{order_at, position_at}
+use Rattle.cable_tree.proofs.Exported.{order_at, position_at}
 use Rattle.dc_bounds.specs.DelayBound.{delay_bound}
 use Rattle.dc_bounds.specs.TickFacts.{IsNear}
 use Rattle.dc_bounds.specs.Weight.{flag, weight}
@@ -17,38 +17,36 @@ use Rattle.dc_delay.specs.declared.latch.Latch.{Latch}
 use Rattle.dc_delay.specs.Latched.{laps, measures as latches_at}
 use Rattle.dc_delay.specs.MeasuredDelay.{delay_list}
 use Rattle.dc_delay.specs.ShapeRows.{kind_of as kind_of_tree_row, kinds_of, positions, rows_of}
-use Rattle.dc_delay.proofs.ByPosition.{near_at}
+use Rattle.dc_delay.proofs.Exported.{near_at}
 use Rattle.dc_topology.specs.Listed.{Lists, Place}
 use Rattle.dc_topology.specs.declared.error.TopologyError.{TopologyError}
-use Rattle.dc_topology.proofs.Outcomes.{not_both, same_tree}
+use Rattle.dc_topology.proofs.Exported.{not_both, same_tree}
 use Rattle.esc_regs.specs.declared.clock_kind.ClockKind.{ClockKind}
 use Rattle.esc_regs.specs.declared.clock_kind.ClockKind.TheVariants as kind
 use Rattle.segment_bounds.specs.Bounds.{delay_at, delay_bound_at}
 use Rattle.segment_file.specs.Legal.{IsLegal}
 use Rattle.segment_file.specs.Segment.{RowValue, SegmentValue, clock_at, is_clock as is_clock_row, is_measuring as is_measuring_row, measures_at, reference_row, tree_row, tree_rows}
-use Rattle.segment_file.proofs.LegalLemmas.{legal_measurable, legal_reference, legal_round_trip, order_many, row_within}
+use Rattle.segment_file.proofs.Exported.{legal_measurable, legal_reference, legal_round_trip, order_many, row_within}
 use Rattle.segment_shape.specs.Slaves.{has_clock, measures}
 use Rattle.segment_start.specs.Start.{no_row}
-use Rattle.segment_start.proofs.Starts.{rows_many}
+use Rattle.segment_start.proofs.Exported.{rows_many}
 use Rattle.tree_status.specs.Status.{status_of, statuses}
-use Rattle.tree_status.proofs.Hanging.{listed}
+use Rattle.tree_status.proofs.Exported.{listed}
 use Rattle.master_script.specs.Kept.{has_delays, kept_after}
 use Rattle.master_script.specs.ListedTree.{tree_of}
 use Rattle.master_script.specs.Progress.{Progress, progress}
 use Rattle.master_script.specs.Slaves.{SlaveWords, is_clock, tree_told}
 use Rattle.master_script.specs.Words.{Words, delays_of, hung_of, hung_or_none}
-use Rattle.master_script.proofs.Trees.{tree_listed, tree_refused}
+use Rattle.master_script.proofs.Exported.{tree_listed, tree_refused}
 use Rattle.honest_replies.specs.Told.{word_of, words_of}
-use Rattle.honest_replies.proofs.ByKind.{clock_word}
-use Rattle.honest_replies.proofs.Numbers.{flagged}
+use Rattle.honest_replies.proofs.Exported.{clock_word, flagged}
 use Rattle.honest_runs.specs.FileSlaves.{kind_at, row_at, status_at}
-use Rattle.honest_runs.proofs.Delays.{delays_there}
-use Rattle.honest_runs.proofs.Positions.{row_has}
+use Rattle.honest_runs.proofs.Exported.{delays_there, row_has}
 use Rattle.run_of_file.specs.MasterOfFile.{kind_of, master_of, row_of}
 use Rattle.run_of_file.specs.RunOfFile.{RunEnd, commissioned, master_after}
 use Rattle.delay_law.specs.NearDelays.{AreNear}
 use Rattle.latch_times.specs.ToldTimes.{AreTold}
-use Rattle.latch_times.proofs.Ended.{at_end, late, sent_at, told}
+use Rattle.latch_times.proofs.Exported.{at_end, late, sent_at, told}
 use Rattle.delay_law.proofs.Readings.{of_clock, place_low}
 
 some_same : {X : Type 0} {x y : X} → Some x ≡ Some y → x ≡ y

@@ -8,10 +8,8 @@ use Rattle.cable_tree.specs.Hops.{lap}
 use Rattle.cable_tree.specs.PathSums.{arrive, port_time}
 use Rattle.cable_tree.specs.Positions.{position_of, renumbered}
 use Rattle.cable_tree.specs.Row.{Row}
-use Rattle.cable_tree.proofs.Laps.{port_time_of}
-use Rattle.cable_tree.proofs.Renumbered as same
-use Rattle.cable_tree.proofs.Standing.{order_at, row_within}
-use Rattle.clock_latches.proofs.Rest.{of_clock as of_clock_at_rest}
+use Rattle.cable_tree.proofs.Exported.{port_time_of, children, lap_here, order_at, row_within}
+use Rattle.clock_latches.proofs.Exported.{of_clock as of_clock_at_rest}
 use Rattle.dc_bounds.specs.TickFacts.{IsWithin}
 use Rattle.dc_delay.specs.declared.latch.Latch.{Latch}
 use Rattle.dc_delay.specs.Latched.{lap_of, laps, latched}
@@ -25,13 +23,12 @@ use Rattle.osc_clock.specs.Ticks.{IsRunning}
 use Rattle.segment_file.specs.Legal.{IsLegal}
 use Rattle.segment_file.specs.Segment.{RowValue, SegmentValue, measures_at, oscillator, tree_rows}
 use Rattle.segment_shape.specs.Slaves.{measures}
-use Rattle.segment_start.proofs.Starts.{rows_many}
+use Rattle.segment_start.proofs.Exported.{rows_many}
 use Rattle.honest_runs.specs.FileSlaves.{row_at}
-use Rattle.honest_runs.proofs.Positions.{row_has}
+use Rattle.honest_runs.proofs.Exported.{row_has}
 use Rattle.latch_times.specs.Resting.{row_there, shown_at}
 use Rattle.latch_times.specs.ToldTimes.{AreTold, TellsTimes}
-use Rattle.latch_times.proofs.Places.{keeps_there}
-use Rattle.latch_times.proofs.Resting.{Counts, counts_on}
+use Rattle.latch_times.proofs.Exported.{keeps_there, Counts, counts_on}
 
 wide : (k : ClockKind) → 32 ≤ width k
 unfolding width
@@ -83,9 +80,9 @@ module _ (s : SegmentValue) (legal : IsLegal s) (sent : ℕ) (latches : List (Op
     -- where the frame comes back
     back_at : (p : Port) (k : ℕ) → child (renumbered rows) q p ≡ Some k → port_time rows (row_at s q) p ≡ Some (arrive rows (row_at s q) + lap (renumbered rows) q p)
     back_at p k here =
-        let c = some_child (position_of rows) (child rows r p) k (sym (same.children rows legal.tree.tree legal.tree.slaves r low p) ∙ here) in
+        let c = some_child (position_of rows) (child rows r p) k (sym (children rows legal.tree.tree legal.tree.slaves r low p) ∙ here) in
         ap (λ x. port_time rows x p) (row_back r low) ∙ port_time_of rows r legal.tree.tree p c.0 c.1
-        ∙ ap₂ (λ a l. Some (a + l)) (ap (arrive rows) (sym (row_back r low))) (sym (same.lap_here rows legal.tree.tree legal.tree.slaves r low p))
+        ∙ ap₂ (λ a l. Some (a + l)) (ap (arrive rows) (sym (row_back r low))) (sym (lap_here rows legal.tree.tree legal.tree.slaves r low p))
 
     word_by : (latch : Latch) → TellsTimes s q sent latch → (p : Port) (k : ℕ) → child (renumbered rows) q p ≡ Some k
         → latched (slice_index latch.ports (port_number p)) (slice_index latch.ports 0)

@@ -4,20 +4,20 @@ use Rattle.std.specs.Prelude.{Ok, Err, is_some, map, option_map}
 use Rattle.std.proofs.lemmas.List.{append-nil, length-map}
 use Rattle.cable_tree.specs.FrameOrder.{order}
 use Rattle.ecat_link.specs.Exchanges.{Exchange}
-use Rattle.ecat_link.proofs.Driving.{driven}
+use Rattle.ecat_link.proofs.Exported.{driven}
 use Rattle.frame_pass.specs.SegmentState.{segment_step}
 use Rattle.master_script.specs.Config.{ConfigValue}
 use Rattle.master_script.specs.Kept.{kept_after}
 use Rattle.master_script.specs.Script.{Answer, Arm, Call, Run, Settle, script}
-use Rattle.master_script.proofs.Staying.{stays_kept}
+use Rattle.master_script.proofs.Exported.{stays_kept}
 use Rattle.run_of_file.specs.MasterOfFile.{master_of}
 use Rattle.run_of_file.specs.RunOfFile.{RunEnd, armed, call_run, commissioned, followed_by, frames_given, master_after, next_call, ran, rounded_off, run_of, settled, turns}
-use Rattle.run_of_file.proofs.InRange.{some_rows}
-use Rattle.run_numbers.proofs.Numbers.{some_kinds}
+use Rattle.run_of_file.proofs.Exported.{some_rows}
+use Rattle.run_numbers.proofs.Exported.{some_kinds}
 use Rattle.segment_file.specs.Legal.{IsLegal}
 use Rattle.segment_file.specs.Segment.{SegmentValue, clock_at, tree_rows}
-use Rattle.segment_file.proofs.LegalLemmas.{order_many}
-use Rattle.honest_runs.proofs.Delays.{delays_whole}
+use Rattle.segment_file.proofs.Exported.{order_many}
+use Rattle.honest_runs.proofs.Exported.{delays_whole}
 use Rattle.delay_law.specs.NearDelays.{AreNear}
 use Rattle.delay_law.proofs.Near.{commissioned_near}
 

@@ -2,7 +2,7 @@
 use Rattle.std.proofs.Common.{◌≡◌, ◌≢◌, ℕ, ◌+◌, ◌%◌, ◌^◌, ◌<◌, ◌≤◌, ◌==◌, Bool, true, false, List, [], ◌∷◌, length, Some, refl, sym, ap, ap₂, subst, ◌∙◌, eq-eqb, arith}
 use Rattle.std.specs.Prelude.{nat_lt, not, slice_get}
 use Rattle.std.proofs.lemmas.Bool.Decides.{nat_tests}
-use Rattle.drift_writes.proofs.OnTheWay.{left_none}
+use Rattle.drift_writes.proofs.Exported.{left_none}
 use Rattle.drift_receipts.proofs.OnTheWay.{IsDrifting, cut_behind, first_like, others_behind, others_none}
 use Rattle.ecat_frame.specs.FrameGrammar.{DatagramValue}
 use Rattle.esc_regs.specs.RegisterAccess.{is_refused}
@@ -16,15 +16,16 @@ use Rattle.frame_pass.specs.LiveRegisters.{system_time}
 use Rattle.frame_pass.specs.SlaveState.{Slave, Timing, station}
 use Rattle.frame_pass.specs.WriteEffects.{difference}
 use Rattle.honest_replies.specs.Told.{AreInOrder}
-use Rattle.honest_replies.proofs.ByKind.{time_for_clocks}
+use Rattle.honest_replies.proofs.Exported.{time_for_clocks}
 use Rattle.local_clock.specs.Reading.{Happening, received}
 use Rattle.master_script.specs.Frames.{drift_datagram}
 use Rattle.named_slaves.specs.Standing.{Stands, own_address}
-use Rattle.named_slaves.proofs.Frames.{low_where}
+use Rattle.named_slaves.proofs.Exported.{low_where}
 use Rattle.segment_shape.specs.Slaves.{has_clock}
 use Rattle.visit_laws.specs.Aside.{HaveSize}
 use Rattle.visit_laws.specs.Drift.{IsDrift, IsOther, first_behind}
-use Rattle.visit_laws.proofs.Drifting.{behind_others, carried, events_first, frame_addressed, frame_receives, passes_refused, quiet_unwritten, same_refusal}
+use Rattle.visit_laws.proofs.Exported.{behind_others, carried, events_first, frame_addressed, frame_receives, passes_refused}
+use Rattle.visit_laws.proofs.Exported.{quiet_unwritten, same_refusal}
 
 -- the low half of the system time that a slave has when the frame arrives
 abbrev pub word_at : ℕ → Slave → Timing → ℕ

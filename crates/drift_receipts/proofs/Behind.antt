@@ -5,18 +5,16 @@ use Rattle.drift_receipts.specs.Receipts.{IsDriftFrame}
 use Rattle.ecat_link.specs.Exchanges.{Exchange, Runs}
 use Rattle.ecat_link.specs.Serves.{Send}
 use Rattle.frame_pass.specs.SegmentState.{SegmentState, phase_of, segment_step}
-use Rattle.frame_pass.proofs.Schedule.{step_sent}
+use Rattle.frame_pass.proofs.Exported.{step_sent}
 use Rattle.master_script.specs.Config.{ConfigValue}
 use Rattle.master_script.specs.Script.{Arm, Call, Run, Settle, script}
 use Rattle.master_script.specs.Scripted.{AreScripted, more, none}
-use Rattle.master_script.proofs.Counts.{progress_sent}
+use Rattle.master_script.proofs.Exported.{progress_sent}
 use Rattle.run_counts.specs.Numbered.{AreNumbered}
-use Rattle.run_counts.proofs.Following.{Drifted, commission_drifted, commission_none, ran_drifted}
+use Rattle.run_counts.proofs.Exported.{Drifted, commission_drifted, commission_none, ran_drifted}
 use Rattle.run_of_file.specs.MasterOfFile.{master_of}
 use Rattle.run_of_file.specs.RunOfFile.{RunEnd, armed, commissioned, frames_given, ran, settled}
-use Rattle.run_numbers.proofs.Following.{Followed, followed, off, on}
-use Rattle.run_numbers.proofs.Numbers.{few_sent, in_step}
-use Rattle.run_numbers.proofs.Stepping.{NumbersOn, step_numbers}
+use Rattle.run_numbers.proofs.Exported.{Followed, followed, off, on, few_sent, in_step, NumbersOn, step_numbers}
 use Rattle.segment_file.specs.Legal.{IsLegal}
 use Rattle.segment_file.specs.Segment.{SegmentValue}
 use Rattle.segment_shape.specs.declared.loss_row.Phase.{Phase}

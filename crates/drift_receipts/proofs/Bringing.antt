@@ -7,7 +7,7 @@ use Rattle.drift_receipts.specs.Receipts.{IsDriftFrame, IsReference, brought, co
 use Rattle.drift_receipts.proofs.AtSlaves.{clock_receives, other_rests, received_at, reference_rests, word_at}
 use Rattle.drift_receipts.proofs.First.{behind_reference, reference_clock}
 use Rattle.drift_receipts.proofs.States.{clock_there, drifting, leaves, orderly, reaches}
-use Rattle.drift_writes.proofs.Slaves.{sizes_of, sound_there}
+use Rattle.drift_writes.proofs.Exported.{sizes_of, sound_there}
 use Rattle.ecat_link.specs.Exchanges.{Exchange}
 use Rattle.frame_pass.specs.Advancing.{measuring_at}
 use Rattle.frame_pass.specs.ClockHistory.{events_passed}
@@ -19,8 +19,8 @@ use Rattle.frame_pass.specs.SlaveState.{Slave, Timing}
 use Rattle.esc_regs.specs.RegisterFile.{Registers}
 use Rattle.honest_runs.specs.FileSlaves.{kind_at, status_at}
 use Rattle.local_clock.specs.Reading.{Happening, received}
-use Rattle.named_slaves.proofs.Frames.{low_where}
-use Rattle.run_schedule.proofs.Settled.{one_drift_comes}
+use Rattle.named_slaves.proofs.Exported.{low_where}
+use Rattle.run_schedule.proofs.Exported.{one_drift_comes}
 use Rattle.segment_file.specs.Legal.{IsLegal}
 use Rattle.segment_file.specs.Segment.{SegmentValue}
 use Rattle.segment_shape.specs.Losses.{loss_at}

@@ -5,15 +5,14 @@ use Rattle.std.proofs.lemmas.Bool.{cases_lt}
 use Rattle.std.proofs.lemmas.List.{length-map}
 use Rattle.cable_tree.specs.FrameOrder.{order}
 use Rattle.cable_tree.specs.PathSums.{arrive}
-use Rattle.cable_tree.proofs.Rising.{order_pair}
-use Rattle.cable_tree.proofs.Standing.{order_at, row_within as position_within}
-use Rattle.dc_bounds.proofs.FirstClock.{reference_first, reference_timed, reference_within}
+use Rattle.cable_tree.proofs.Exported.{order_pair, order_at, row_within as position_within}
+use Rattle.dc_bounds.proofs.Exported.{reference_first, reference_timed, reference_within}
 use Rattle.drift_receipts.specs.Receipts.{IsReference}
 use Rattle.honest_runs.specs.FileSlaves.{kind_at, row_at}
-use Rattle.honest_runs.proofs.Positions.{row_has}
+use Rattle.honest_runs.proofs.Exported.{row_has}
 use Rattle.segment_file.specs.Legal.{IsLegal}
 use Rattle.segment_file.specs.Segment.{SegmentValue, clock_at, tree_row, tree_rows}
-use Rattle.segment_file.proofs.LegalLemmas.{order_many, row_within}
+use Rattle.segment_file.proofs.Exported.{order_many, row_within}
 use Rattle.segment_shape.specs.Slaves.{has_clock}
 
 module _ (s : SegmentValue) (legal : IsLegal s) (r : ℕ) (reference : IsReference s r) where

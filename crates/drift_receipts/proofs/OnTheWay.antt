@@ -1,7 +1,7 @@
 -- The datagrams of a drift frame on its way: the first, and those behind it.
 use Rattle.std.proofs.Common.{◌≡◌, ℕ, zero, suc, ◌+◌, List, [], ◌∷◌, length, inr, refl, ◌∙◌, arith}
 use Rattle.drift_writes.specs.Untouched.{WriteNone}
-use Rattle.drift_writes.proofs.OnTheWay.{datagrams_none}
+use Rattle.drift_writes.proofs.Exported.{datagrams_none}
 use Rattle.ecat_frame.specs.FrameGrammar.{DatagramValue}
 use Rattle.frame_pass.specs.DatagramAtSlave.{datagram_after, slave_after}
 use Rattle.frame_pass.specs.FramePass.{at_arrival, datagrams_after, datagrams_behind, datagrams_passed}
@@ -16,9 +16,7 @@ use Rattle.master_script.specs.declared.step.Step.TheVariants.{Count, Identify, 
 use Rattle.segment_shape.specs.declared.loss_row.Phase.TheVariants as phase
 use Rattle.visit_laws.specs.Aside.{HaveSize}
 use Rattle.visit_laws.specs.Drift.{first_behind}
-use Rattle.visit_laws.proofs.Asides.{same_size}
-use Rattle.visit_laws.proofs.Effects.{size_advanced}
-use Rattle.visit_laws.proofs.Latching.{size_after}
+use Rattle.visit_laws.proofs.Exported.{same_size, size_advanced, size_after}
 
 -- the datagrams of a drift frame: the first brings the time, and the others write neither the system time nor the speed
 pub record IsDrifting (r : ℕ) (ds : List DatagramValue) : Type 0 where

@@ -12,21 +12,18 @@ use Rattle.drift_receipts.proofs.OnTheWay.{IsDrifting, drifting_step}
 use Rattle.ecat_frame.specs.FrameGrammar.{DatagramValue, FrameValue}
 use Rattle.ecat_link.specs.Exchanges.{Exchange, Runs}
 use Rattle.ecat_link.specs.Serves.{Send}
-use Rattle.ecat_link.proofs.Serving.{runs_then}
+use Rattle.ecat_link.proofs.Exported.{runs_then}
 use Rattle.esc_regs.specs.declared.clock_kind.ClockKind.{ClockKind}
 use Rattle.esc_regs.specs.declared.clock_kind.ClockKind.TheVariants as kind
 use Rattle.frame_pass.specs.Invariants.{IsSoundSegment}
 use Rattle.frame_pass.specs.Reach.{reach_of, reached_by}
 use Rattle.frame_pass.specs.SegmentState.{SegmentState, leaves_at, number_of, phase_of, segment_step}
 use Rattle.frame_pass.specs.SlaveState.{FixedPart, Slave, Timing, fixed_part}
-use Rattle.frame_pass.proofs.Fixed.{same_step}
-use Rattle.frame_pass.proofs.Sound.{timely_step}
+use Rattle.frame_pass.proofs.Exported.{same_step, timely_step}
 use Rattle.honest_replies.specs.Told.{AreInOrder, IsNear}
-use Rattle.honest_replies.proofs.Mindful.{mindful_step}
+use Rattle.honest_replies.proofs.Exported.{mindful_step}
 use Rattle.honest_runs.specs.FileSlaves.{kind_at, row_at, status_at}
-use Rattle.honest_runs.proofs.Delays.{commissioned_late}
-use Rattle.honest_runs.proofs.Returning.{order_stays}
-use Rattle.honest_runs.proofs.Turning.{sent_by}
+use Rattle.honest_runs.proofs.Exported.{commissioned_late, order_stays, sent_by}
 use Rattle.master_script.specs.Config.{ConfigValue}
 use Rattle.master_script.specs.Kept.{kept_after}
 use Rattle.master_script.specs.Progress.{progress}
@@ -36,29 +33,24 @@ use Rattle.master_script.specs.Steps.{datagrams_of}
 use Rattle.master_script.specs.Words.{reference_of}
 use Rattle.master_script.specs.declared.step.Step.{Step}
 use Rattle.master_script.specs.declared.step.Step.TheVariants.{Count, Identify, Rate, Latch, Times, Set, Settle, Drift, Arm}
-use Rattle.master_script.proofs.Counts.{progress_sent}
-use Rattle.master_script.proofs.Staying.{stays_kept}
-use Rattle.master_script.proofs.Wants.{wants}
-use Rattle.master_script.proofs.Within.{StepWithin}
+use Rattle.master_script.proofs.Exported.{progress_sent, stays_kept, wants, StepWithin}
 use Rattle.named_slaves.specs.Mindful.{AreMindful}
-use Rattle.named_slaves.proofs.Frames.{low_where}
+use Rattle.named_slaves.proofs.Exported.{low_where}
 use Rattle.run_of_file.specs.MasterOfFile.{master_of}
 use Rattle.run_of_file.specs.RunOfFile.{frames_given}
-use Rattle.run_of_file.proofs.Ending.{commissioned_on}
-use Rattle.run_of_file.proofs.FromStart.{commissioned_from, kept_by_runs}
-use Rattle.run_of_file.proofs.InRange.{as_many_kinds, few_rows}
+use Rattle.run_of_file.proofs.Exported.{commissioned_on, commissioned_from, kept_by_runs, as_many_kinds, few_rows}
 use Rattle.run_numbers.specs.OnTheWay.{StandsAfter}
-use Rattle.run_numbers.proofs.Numbers.{master_frame_ns, some_kinds, stands_after}
+use Rattle.run_numbers.proofs.Exported.{master_frame_ns, some_kinds, stands_after}
 use Rattle.segment_file.specs.Legal.{IsLegal}
 use Rattle.segment_file.specs.Segment.{RowValue, SegmentValue, tree_rows}
-use Rattle.segment_file.proofs.LegalLemmas.{legal_reference}
+use Rattle.segment_file.proofs.Exported.{legal_reference}
 use Rattle.segment_shape.specs.Losses.{loss_at}
 use Rattle.segment_shape.specs.Slaves.{has_clock}
 use Rattle.segment_shape.specs.declared.loss_row.LossRow.{LossRow}
 use Rattle.segment_shape.specs.declared.loss_row.Phase.{Phase}
 use Rattle.segment_shape.specs.declared.loss_row.Phase.TheVariants as phase
 use Rattle.segment_start.specs.Start.{no_row, slave_of, started_segment, timing_by}
-use Rattle.segment_start.proofs.Starts.{stands_at}
+use Rattle.segment_start.proofs.Exported.{stands_at}
 
 some_same : {X : Type 0} {x y : X} → Some x ≡ Some y → x ≡ y
 some_same e = cc

@@ -1,5 +1,6 @@
-pub mod Frames
-pub mod OnTheWay
-pub mod Corrections
-pub mod Slaves
-pub mod Runs
+mod Frames
+mod OnTheWay
+mod Corrections
+mod Slaves
+mod Runs
+pub mod Exported

@@ -12,7 +12,7 @@ use Rattle.ecat_link.specs.Serves.{Send}
 use Rattle.frame_pass.specs.Invariants.{IsSoundSegment}
 use Rattle.frame_pass.specs.SegmentState.{phase_of}
 use Rattle.frame_pass.specs.SlaveState.{Slave, holds}
-use Rattle.honest_runs.proofs.Turning.{sent_by}
+use Rattle.honest_runs.proofs.Exported.{sent_by}
 use Rattle.master_script.specs.Config.{ConfigValue}
 use Rattle.master_script.specs.Progress.{progress}
 use Rattle.master_script.specs.Script.{Answer, Call, script}
@@ -20,13 +20,13 @@ use Rattle.master_script.specs.Scripted.{AreScripted, more, none}
 use Rattle.master_script.specs.Steps.{datagrams_of}
 use Rattle.master_script.specs.Words.{Words}
 use Rattle.master_script.specs.declared.step.Step.{Step}
-use Rattle.master_script.proofs.Wants.{wants}
+use Rattle.master_script.proofs.Exported.{wants}
 use Rattle.run_counts.specs.Numbered.{AreNumbered}
-use Rattle.run_counts.proofs.Following.{Drifted, armed_drifted, ran_drifted, settled_drifted}
+use Rattle.run_counts.proofs.Exported.{Drifted, armed_drifted, ran_drifted, settled_drifted}
 use Rattle.run_of_file.specs.MasterOfFile.{master_of}
 use Rattle.run_of_file.specs.RunOfFile.{RunEnd, armed, commissioned, end_of_run, frames_given, ran, rounded_off, run_of, settled}
-use Rattle.run_of_file.proofs.Ending.{commissioned_on, ran_on}
-use Rattle.run_numbers.proofs.Numbers.{some_kinds}
+use Rattle.run_of_file.proofs.Exported.{commissioned_on, ran_on}
+use Rattle.run_numbers.proofs.Exported.{some_kinds}
 use Rattle.segment_file.specs.Legal.{IsLegal}
 use Rattle.segment_file.specs.Segment.{SegmentValue}
 use Rattle.segment_shape.specs.declared.loss_row.Phase.TheVariants as phase

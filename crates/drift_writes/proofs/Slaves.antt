@@ -15,16 +15,10 @@ use Rattle.frame_pass.specs.PlainRegisters.{AreLeft, IsPlain}
 use Rattle.frame_pass.specs.Reach.{reach_of}
 use Rattle.frame_pass.specs.SegmentState.{SegmentState, finished, leaves_at, segment_step}
 use Rattle.frame_pass.specs.SlaveState.{Slave, holds}
-use Rattle.frame_pass.proofs.AtPositions.{step_slaves}
-use Rattle.frame_pass.proofs.Plain.{left_passed, plain_time}
-use Rattle.frame_pass.proofs.Schedule.{is_not_sent}
-use Rattle.frame_pass.proofs.Sizes.{HasSize}
-use Rattle.frame_pass.proofs.Sound.{timely_leaving, timely_step}
+use Rattle.frame_pass.proofs.Exported.{step_slaves, left_passed, plain_time, is_not_sent, HasSize, timely_leaving, timely_step}
 use Rattle.visit_laws.specs.Aside.{HaveSize}
 use Rattle.visit_laws.specs.ReceiveTimes.{IsReceiveTime}
-use Rattle.visit_laws.proofs.Asides.{never_latching}
-use Rattle.visit_laws.proofs.Effects.{size_advanced, times_left}
-use Rattle.visit_laws.proofs.Latching.{quiet_passed}
+use Rattle.visit_laws.proofs.Exported.{never_latching, size_advanced, times_left, quiet_passed}
 
 some_same : {X : Type 0} {x y : X} → Some x ≡ Some y → x ≡ y
 some_same e = cc

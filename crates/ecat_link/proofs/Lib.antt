@@ -1,4 +1,5 @@
-pub mod Serving
-pub mod Driving
-pub mod Losses
+mod Serving
+mod Driving
+mod Losses
 mod Repeating
+pub mod Exported

@@ -14,7 +14,7 @@ use Rattle.frame_pass.specs.SlaveState.{Slave}
 use Rattle.frame_pass.specs.Advancing.{advanced_to}
 use Rattle.frame_pass.specs.FramePass.{slaves_passed, end_of}
 use Rattle.frame_pass.specs.SegmentState.{SegmentState, segment_step, leaves_at, carried, numbered, leaving, number_of, phase_of, finished}
-use Rattle.frame_pass.proofs.Keeping.{IsVisited, kept_by_all}
+use Rattle.frame_pass.proofs.Exported.{IsVisited, kept_by_all}
 use Rattle.segment_start.specs.Start.{slave_of, timing_by, started_segment}
 use Rattle.edge_numbers.specs.Numbered.{HasNumbers, IsNumberedSlave, AreNumberedSlaves}
 use Rattle.edge_numbers.proofs.AtSlaves.{none_kept, numbered_at, keeps_numbers}

@@ -14,7 +14,7 @@ use Rattle.frame_pass.specs.SlaveState.{Timing, Measuring, Slave, on_measuring, 
 use Rattle.frame_pass.specs.Advancing.{advanced_to, measuring_at, ticked_to}
 use Rattle.frame_pass.specs.WriteEffects.{latched, compared, reset_by, activated, affected, wrote, arms, sync1_by}
 use Rattle.frame_pass.specs.FramePass.{port_latched}
-use Rattle.frame_pass.proofs.Keeping.{Keeps}
+use Rattle.frame_pass.proofs.Exported.{Keeps}
 use Rattle.edge_numbers.specs.Numbered.{AreNumbered, IsArmedBy, HasNumbers, IsNumberedSlave}
 use Rattle.edge_numbers.proofs.Numbering.{going_ticks}
 

@@ -1,3 +1,4 @@
-pub mod Numbering
-pub mod AtSlaves
-pub mod AtSegments
+mod Numbering
+mod AtSlaves
+mod AtSegments
+pub mod Exported

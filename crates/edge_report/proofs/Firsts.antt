@@ -7,7 +7,7 @@ use Rattle.std.proofs.lemmas.List.{get_or-map}
 use Rattle.std.proofs.lemmas.List.FromFn.{get_or-range_with_len}
 use Rattle.std.proofs.lemmas.List.Elements.{All-get_or, Contains-get_or, filter_passes}
 use Rattle.segment_bounds.specs.Window.{greatest, window_between}
-use Rattle.segment_bounds.proofs.Greatest.{either_order}
+use Rattle.segment_bounds.proofs.Exported.{either_order}
 use Rattle.segment_file.specs.Segment.{SegmentValue}
 use Rattle.sync_units.specs.declared.edge.Signal.{Signal}
 use Rattle.sync_units.specs.declared.edge.Signal.TheVariants.{Sync0, Sync1}

@@ -1,9 +1,10 @@
-pub mod Places
-pub mod Texts
-pub mod Sorting
-pub mod Ordering
-pub mod Pairs
-pub mod Reaching
-pub mod Firsts
-pub mod Spreading
-pub mod GreatestPair
+mod Places
+mod Texts
+mod Sorting
+mod Ordering
+mod Pairs
+mod Reaching
+mod Firsts
+mod Spreading
+mod GreatestPair
+pub mod Exported

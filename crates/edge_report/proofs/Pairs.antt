@@ -6,7 +6,7 @@ use Rattle.std.proofs.lemmas.Bool.{cases_lt}
 use Rattle.std.proofs.lemmas.List.{get_or_default}
 use Rattle.std.proofs.lemmas.List.Elements.{All-head, All-tail}
 use Rattle.segment_bounds.specs.Window.{greatest, greatest_with}
-use Rattle.segment_bounds.proofs.Greatest.{most}
+use Rattle.segment_bounds.proofs.Exported.{most}
 
 -- of images
 with_images : {X Y : Type 0} (f : X → Y) (number : Y → Y → ℕ) (a : X) (bs : List X) → greatest_with number (f a) (map f bs) ≡ greatest_with (λ x y. number (f x) (f y)) a bs

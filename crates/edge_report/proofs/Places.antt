@@ -6,8 +6,7 @@ use Rattle.std.proofs.lemmas.List.{get_or-map, length-map}
 use Rattle.cable_tree.specs.FrameOrder.{order}
 use Rattle.cable_tree.specs.Positions.{position_of}
 use Rattle.cable_tree.specs.Row.{Row}
-use Rattle.cable_tree.proofs.Members.{order_whole}
-use Rattle.cable_tree.proofs.Standing.{position_at}
+use Rattle.cable_tree.proofs.Exported.{order_whole, position_at}
 use Rattle.segment_bounds.specs.Bounds.{reference_of}
 use Rattle.segment_file.specs.Legal.{IsClock, IsLegal}
 use Rattle.segment_file.specs.Seen.{row_seen}

@@ -8,7 +8,7 @@ use Rattle.std.proofs.lemmas.List.Elements.{All-take, All-weaker}
 use Rattle.segment_bounds.specs.Window.{greatest, greatest_with}
 use Rattle.segment_file.specs.Legal.{IsLegal}
 use Rattle.segment_file.specs.Segment.{RowValue, SegmentValue}
-use Rattle.segment_file.proofs.LegalLemmas.{row_within}
+use Rattle.segment_file.proofs.Exported.{row_within}
 use Rattle.sync_units.specs.declared.edge.Signal.{Signal}
 use Rattle.sync_units.specs.declared.edge.Signal.TheVariants.{Sync0, Sync1}
 use Rattle.edge_report.specs.Edges.{AreEdges, IsEdge, shift_of}

@@ -1,10 +1,11 @@
-pub mod Numbers
-pub mod TableFacts
-pub mod Zeros
-pub mod Bytes
-pub mod Whole
-pub mod Starting
-pub mod RowWrites
-pub mod Storing
-pub mod Showing
+mod Numbers
+mod TableFacts
+mod Zeros
+mod Bytes
+mod Whole
+mod Starting
+mod RowWrites
+mod Storing
+mod Showing
 mod OwnTimes
+pub mod Exported

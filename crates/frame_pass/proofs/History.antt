@@ -8,12 +8,11 @@ use Rattle.std.proofs.lemmas.List.Elements.{All-append, All-cons, All-head, All-
 use Rattle.ecat_frame.specs.FrameGrammar.{DatagramValue}
 use Rattle.osc_clock.specs.Ticks.{IsRunning}
 use Rattle.local_clock.specs.Reading.{Clock, Happening, Event, received, reset, after_event, advanced, clock_at, AreInOrder, AreUntil, IsPossible}
-use Rattle.local_clock.proofs.History.{in_turn, at_once, stands}
-use Rattle.local_clock.proofs.ManyTicks.{advanced_here}
+use Rattle.local_clock.proofs.Exported.{in_turn, at_once, stands, advanced_here}
 use Rattle.esc_regs.specs.declared.answers.Written.{Written}
 use Rattle.esc_regs.specs.RegisterFile.{Registers}
 use Rattle.esc_regs.specs.RegisterWrite.{written, told}
-use Rattle.esc_regs.proofs.Storing.{written_kind, rate_bounds}
+use Rattle.esc_regs.proofs.Exported.{written_kind, rate_bounds}
 use Rattle.esc_regs.specs.RegisterAccess.{is_refused, rate_by}
 use Rattle.esc_regs.specs.declared.clock_kind.ClockKind.{ClockKind}
 use Rattle.frame_pass.specs.SlaveState.{Timing, Measuring, Slave, width, width_of, offset, on_measuring, on_measuring_of}

@@ -1,11 +1,12 @@
-pub mod Sizes
-pub mod Keeping
-pub mod Sound
-pub mod Unreached
-pub mod Reply
-pub mod Schedule
-pub mod History
-pub mod Units
-pub mod Plain
-pub mod Fixed
-pub mod AtPositions
+mod Sizes
+mod Keeping
+mod Sound
+mod Unreached
+mod Reply
+mod Schedule
+mod History
+mod Units
+mod Plain
+mod Fixed
+mod AtPositions
+pub mod Exported

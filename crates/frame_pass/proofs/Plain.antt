@@ -6,8 +6,7 @@ use Rattle.esc_regs.specs.RegisterBytes.{AreApart}
 use Rattle.esc_regs.specs.RegisterFile.{Registers}
 use Rattle.esc_regs.specs.RegisterWrite.{written, told}
 use Rattle.esc_regs.specs.declared.answers.Written.{Written}
-use Rattle.esc_regs.proofs.Numbers.{apart}
-use Rattle.esc_regs.proofs.Storing.{untouched}
+use Rattle.esc_regs.proofs.Exported.{apart, untouched}
 use Rattle.frame_pass.specs.SlaveState.{Timing, Measuring, Slave, Visits, holds, holding, width_of, offset, on_measuring, on_measuring_of}
 use Rattle.latch_unit.specs.Stamp.{stamp_by}
 use Rattle.frame_pass.specs.Advancing.{advanced_to, measuring_at, ticked_to, stamped}

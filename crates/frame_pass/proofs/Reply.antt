@@ -7,8 +7,7 @@ use Rattle.ecat_frame.specs.FrameGrammar.{DatagramValue, FrameValue, spelling}
 use Rattle.ecat_frame.specs.Difference.{wiped, wiped_datagram, first_apart, first_difference}
 use Rattle.esc_regs.specs.RegisterAccess.{is_refused}
 use Rattle.esc_regs.specs.ShownRegisters.{shown}
-use Rattle.esc_regs.proofs.Showing.{range_length}
-use Rattle.esc_regs.proofs.Storing.{not_past}
+use Rattle.esc_regs.proofs.Exported.{range_length, not_past}
 use Rattle.segment_shape.specs.Losses.{loss_at}
 use Rattle.segment_shape.specs.declared.loss_row.Phase.{Phase}
 use Rattle.segment_shape.specs.declared.loss_row.Phase.TheVariants.{Commission, Drift}

@@ -8,9 +8,7 @@ use Rattle.esc_regs.specs.RegisterTable.{held}
 use Rattle.esc_regs.specs.RegisterWrite.{written, stored_bytes}
 use Rattle.esc_regs.specs.ShownRegisters.{shown, showing}
 use Rattle.esc_regs.specs.declared.live.Live.{Live}
-use Rattle.esc_regs.proofs.Numbers.{same_length}
-use Rattle.esc_regs.proofs.Showing.{showing_length}
-use Rattle.esc_regs.proofs.TableFacts.{held_few}
+use Rattle.esc_regs.proofs.Exported.{same_length, showing_length, held_few}
 use Rattle.frame_pass.specs.SlaveState.{holding}
 use Rattle.frame_pass.specs.Advancing.{stamped}
 

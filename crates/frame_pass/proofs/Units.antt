@@ -13,7 +13,7 @@ use Rattle.sync_units.specs.SyncRule.{Armed}
 use Rattle.esc_regs.specs.declared.answers.Written.{Written}
 use Rattle.esc_regs.specs.RegisterFile.{Registers}
 use Rattle.esc_regs.specs.RegisterWrite.{written, told}
-use Rattle.esc_regs.proofs.Storing.{written_kind}
+use Rattle.esc_regs.proofs.Exported.{written_kind}
 use Rattle.frame_pass.specs.SlaveState.{Timing, Measuring, Slave, width, width_of, offset, on_measuring, on_measuring_of}
 use Rattle.latch_unit.specs.Stamp.{stamp_by}
 use Rattle.frame_pass.specs.Advancing.{advanced_to, measuring_at, ticked_to}

@@ -14,15 +14,14 @@ use Rattle.frame_pass.specs.FramePass.{datagrams_behind}
 use Rattle.segment_shape.specs.Slaves.{has_clock}
 use Rattle.visit_laws.specs.Aside.{never_writes}
 use Rattle.visit_laws.specs.Stations.{slave_found}
-use Rattle.visit_laws.proofs.Stations.{found}
+use Rattle.visit_laws.proofs.Exported.{found}
 use Rattle.master_script.specs.Frames.{asks, blank, station, identify_datagrams}
 use Rattle.master_script.specs.Slaves.{SlaveWords}
 use Rattle.master_script.specs.Steps.{expected_fourth, identified, datagram_at}
 use Rattle.named_slaves.specs.Standing.{own_address, Stands}
 use Rattle.named_slaves.specs.Mindful.{AreMindful}
 use Rattle.named_slaves.specs.Addressed.{ByStation}
-use Rattle.named_slaves.proofs.Frames.{Had, had_before, found_named}
-use Rattle.named_slaves.proofs.Answering.{naming_counts, read_there, refused_there}
+use Rattle.named_slaves.proofs.Exported.{Had, had_before, found_named, naming_counts, read_there, refused_there}
 use Rattle.honest_replies.specs.Told.{word_of, AreInOrder, counts_of}
 use Rattle.honest_replies.proofs.ByKind.{IsFor, all, features_for_all, status_for_all, time_for_clocks}
 use Rattle.honest_replies.proofs.Mindful.{naming, names}

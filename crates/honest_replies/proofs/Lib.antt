@@ -1,5 +1,6 @@
-pub mod ByKind
-pub mod Numbers
-pub mod Mindful
-pub mod Replies
-pub mod Identifying
+mod ByKind
+mod Numbers
+mod Mindful
+mod Replies
+mod Identifying
+pub mod Exported

@@ -17,10 +17,10 @@ use Rattle.frame_pass.specs.FramePass.{datagrams_behind}
 use Rattle.segment_shape.specs.Slaves.{measures, has_clock}
 use Rattle.visit_laws.specs.Aside.{HaveSize}
 use Rattle.visit_laws.specs.Counters.{gains}
-use Rattle.visit_laws.proofs.Counting.{counts}
+use Rattle.visit_laws.proofs.Exported.{counts}
 use Rattle.master_script.specs.Slaves.{SlaveWords, is_measuring, is_clock, measuring, clocks}
 use Rattle.named_slaves.specs.Broadcasts.{asks_all, accepting}
-use Rattle.named_slaves.proofs.Answering.{all_answer}
+use Rattle.named_slaves.proofs.Exported.{all_answer}
 use Rattle.honest_replies.specs.Told.{word_of, words_of, AreInOrder}
 use Rattle.honest_replies.proofs.ByKind.{IsFor, all, clock_word, measuring_word}
 

@@ -12,7 +12,7 @@ use Rattle.frame_pass.specs.DatagramAtSlave.{slave_after}
 use Rattle.frame_pass.specs.FramePass.{at_arrival, datagrams_after, datagrams_passed, datagrams_behind}
 use Rattle.segment_shape.specs.Slaves.{measures, has_clock}
 use Rattle.visit_laws.specs.Stations.{slave_found}
-use Rattle.visit_laws.proofs.Stations.{IsByStation}
+use Rattle.visit_laws.proofs.Exported.{IsByStation}
 use Rattle.master_script.specs.Config.{ConfigValue}
 use Rattle.master_script.specs.Frames.{blank, width, count_datagrams, rate_datagrams, latch_datagrams, times_datagrams, set_datagrams, drift_datagrams, arm_datagrams}
 use Rattle.master_script.specs.Judged.{judged, judged_by, miscounted, counters}
@@ -25,8 +25,7 @@ use Rattle.named_slaves.specs.Standing.{own_address, Stands}
 use Rattle.named_slaves.specs.Mindful.{AreMindful}
 use Rattle.named_slaves.specs.Addressed.{ByStation}
 use Rattle.named_slaves.specs.Broadcasts.{asks_all}
-use Rattle.named_slaves.proofs.Frames.{Had, had_before, found_standing}
-use Rattle.named_slaves.proofs.Answering.{read_there, written_there}
+use Rattle.named_slaves.proofs.Exported.{Had, had_before, found_standing, read_there, written_there}
 use Rattle.honest_replies.specs.Told.{AreInOrder, Knows, IsMeant, counts_of}
 use Rattle.honest_replies.proofs.ByKind.{IsFor, all, count_for_all, time_for_clocks, speed_for_clocks, latch_for_measuring, ports_for_measuring, unit_for_measuring, offset_for_clocks, delay_for_clocks, activation_for_clocks, cycle_for_clocks, start_for_clocks}
 use Rattle.honest_replies.proofs.Numbers.{number, clocks_many, measuring_many, all_many, broadcast}

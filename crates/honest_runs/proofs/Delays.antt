@@ -10,7 +10,7 @@ use Rattle.cable_tree.specs.Positions.{position_of}
 use Rattle.dc_bounds.specs.Weight.{flag}
 use Rattle.dc_delay.specs.ShapeRows.{positions}
 use Rattle.ecat_link.specs.Serves.{End, Sends}
-use Rattle.ecat_link.proofs.Driving.{driven}
+use Rattle.ecat_link.proofs.Exported.{driven}
 use Rattle.esc_regs.specs.declared.clock_kind.ClockKind.{ClockKind}
 use Rattle.frame_pass.specs.SlaveState.{Slave}
 use Rattle.frame_pass.specs.SegmentState.{segment_step}
@@ -20,16 +20,14 @@ use Rattle.master_script.specs.Progress.{Commissioning, Settling, Progress, prog
 use Rattle.master_script.specs.Script.{Commission, Answer, script}
 use Rattle.master_script.specs.Slaves.{SlaveWords, is_clock, judgement}
 use Rattle.master_script.specs.Words.{delays_of, hung_of}
-use Rattle.master_script.proofs.Calls.{commission_done}
-use Rattle.master_script.proofs.Within.{hung_length}
+use Rattle.master_script.proofs.Exported.{commission_done, hung_length}
 use Rattle.segment_file.specs.Legal.{IsLegal}
 use Rattle.segment_file.specs.Segment.{SegmentValue, tree_rows, clock_at}
-use Rattle.segment_file.proofs.LegalLemmas.{legal_reference, order_many}
+use Rattle.segment_file.proofs.Exported.{legal_reference, order_many}
 use Rattle.segment_shape.specs.Slaves.{has_clock}
 use Rattle.segment_start.specs.Start.{started_segment}
 use Rattle.honest_replies.specs.Told.{words_of}
-use Rattle.honest_replies.proofs.ByKind.{clock_word}
-use Rattle.honest_replies.proofs.Numbers.{flagged, words_many}
+use Rattle.honest_replies.proofs.Exported.{clock_word, flagged, words_many}
 use Rattle.run_of_file.specs.MasterOfFile.{master_of}
 use Rattle.run_of_file.specs.RunOfFile.{RunEnd, turns, commissioned, master_after}
 use Rattle.honest_runs.specs.FileSlaves.{kind_at, row_at, status_at}

@@ -15,13 +15,10 @@ use Rattle.master_script.specs.Slaves.{SlaveWords, judgement}
 use Rattle.master_script.specs.Steps.{expected, frame_of, identified}
 use Rattle.master_script.specs.declared.step.Refusal.{Refusal}
 use Rattle.master_script.specs.declared.step.Step.TheVariants.{Identify}
-use Rattle.master_script.proofs.Within.{judged_below}
+use Rattle.master_script.proofs.Exported.{judged_below}
 use Rattle.named_slaves.specs.Mindful.{AreMindful}
 use Rattle.honest_replies.specs.Told.{word_of, words_of, AreInOrder, counts_of}
-use Rattle.honest_replies.proofs.Mindful.{mindful_step, naming, names}
-use Rattle.honest_replies.proofs.Numbers.{words_many}
-use Rattle.honest_replies.proofs.Replies.{judged_none}
-use Rattle.honest_replies.proofs.Identifying.{reads_of, identify_tells, identify_counts}
+use Rattle.honest_replies.proofs.Exported.{mindful_step, naming, names, words_many, judged_none, reads_of, identify_tells, identify_counts}
 use Rattle.honest_runs.proofs.Progressing.{identifying, IsEarly, IsLate, IsHonest}
 use Rattle.honest_runs.proofs.Meant.{later_meant}
 use Rattle.honest_runs.proofs.Returning.{came_back, undisturbed, order_stays, order_grows}

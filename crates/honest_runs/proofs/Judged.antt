@@ -7,28 +7,27 @@ use Rattle.std.proofs.lemmas.List.FromFn.{fill_by_all}
 use Rattle.std.proofs.lemmas.Simd.{map-map}
 use Rattle.cable_tree.specs.FrameOrder.{order}
 use Rattle.cable_tree.specs.Positions.{IsByPosition, places, position_of}
-use Rattle.cable_tree.proofs.Standing.{row_within, order_at}
+use Rattle.cable_tree.proofs.Exported.{row_within, order_at}
 use Rattle.dc_bounds.specs.Weight.{flag}
 use Rattle.dc_delay.specs.Refusals.{first_timed, first_unmeasurable}
 use Rattle.dc_delay.specs.ShapeRows.{positions}
-use Rattle.dc_delay.proofs.ByPosition.{reference_at, unmeasurable_at}
+use Rattle.dc_delay.proofs.Exported.{reference_at, unmeasurable_at}
 use Rattle.dc_topology.specs.Listed.{Place, Lists}
 use Rattle.dc_topology.specs.declared.error.TopologyError.{TopologyError}
-use Rattle.dc_topology.proofs.Outcomes.{same_tree, not_both}
+use Rattle.dc_topology.proofs.Exported.{same_tree, not_both}
 use Rattle.esc_regs.specs.declared.clock_kind.ClockKind.{ClockKind}
 use Rattle.master_script.specs.ListedTree.{tree_of}
 use Rattle.master_script.specs.Slaves.{SlaveWords, is_clock, is_measuring, judgement, judged_tree, judged_clocks, tree_told}
-use Rattle.master_script.proofs.Trees.{tree_listed, tree_refused}
+use Rattle.master_script.proofs.Exported.{tree_listed, tree_refused}
 use Rattle.segment_file.specs.Legal.{IsLegal}
 use Rattle.segment_file.specs.Segment.{RowValue, SegmentValue, tree_rows, tree_row, clock_at, measures_at}
-use Rattle.segment_file.proofs.LegalLemmas.{order_many, legal_reference, legal_measurable}
+use Rattle.segment_file.proofs.Exported.{order_many, legal_reference, legal_measurable}
 use Rattle.segment_shape.specs.Slaves.{measures, has_clock}
 use Rattle.segment_start.specs.Start.{no_row}
 use Rattle.tree_status.specs.Status.{status_of, statuses}
-use Rattle.tree_status.proofs.Hanging.{listed}
+use Rattle.tree_status.proofs.Exported.{listed}
 use Rattle.honest_replies.specs.Told.{word_of, words_of}
-use Rattle.honest_replies.proofs.ByKind.{clock_word, measuring_word}
-use Rattle.honest_replies.proofs.Numbers.{flagged}
+use Rattle.honest_replies.proofs.Exported.{clock_word, measuring_word, flagged}
 use Rattle.honest_runs.specs.FileSlaves.{kind_at, status_at}
 
 module _ (s : SegmentValue) (legal : IsLegal s) where

@@ -1,11 +1,12 @@
-pub mod Progressing
-pub mod Beginning
-pub mod Judged
-pub mod Returning
-pub mod Meant
-pub mod Turning
-pub mod Identified
-pub mod Turns
-pub mod Runs
-pub mod Positions
-pub mod Delays
+mod Progressing
+mod Beginning
+mod Judged
+mod Returning
+mod Meant
+mod Turning
+mod Identified
+mod Turns
+mod Runs
+mod Positions
+mod Delays
+pub mod Exported

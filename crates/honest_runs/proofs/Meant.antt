@@ -10,8 +10,7 @@ use Rattle.master_script.specs.Slaves.{SlaveWords, is_measuring, is_clock, measu
 use Rattle.master_script.specs.declared.step.Step.{Step}
 use Rattle.master_script.specs.declared.step.Step.TheVariants.{Times, Set, Arm}
 use Rattle.honest_replies.specs.Told.{word_of, words_of, IsMeant}
-use Rattle.honest_replies.proofs.ByKind.{clock_word, measuring_word}
-use Rattle.honest_replies.proofs.Numbers.{flagged, words_many}
+use Rattle.honest_replies.proofs.Exported.{clock_word, measuring_word, flagged, words_many}
 
 -- each of these positions is that of a slave with P
 abbrev AreWith : (ClockKind → Bool) → (ℕ → ClockKind) → ℕ → List ℕ → Type 0

@@ -5,13 +5,13 @@ use Rattle.std.proofs.lemmas.List.{append-nil}
 use Rattle.ecat_frame.specs.FrameGrammar.{FrameValue}
 use Rattle.ecat_link.specs.Exchanges.{Exchange, Runs}
 use Rattle.ecat_link.specs.Serves.{Send, End, Sends}
-use Rattle.ecat_link.proofs.Driving.{driven}
+use Rattle.ecat_link.proofs.Exported.{driven}
 use Rattle.cable_tree.specs.Positions.{position_of}
 use Rattle.esc_regs.specs.declared.clock_kind.ClockKind.{ClockKind}
 use Rattle.frame_pass.specs.SlaveState.{Slave}
 use Rattle.frame_pass.specs.Invariants.{IsSoundSegment}
 use Rattle.frame_pass.specs.SegmentState.{SegmentState, segment_step}
-use Rattle.frame_pass.proofs.Sound.{timely_step}
+use Rattle.frame_pass.proofs.Exported.{timely_step}
 use Rattle.dc_delay.specs.ShapeRows.{positions}
 use Rattle.master_script.specs.Config.{ConfigValue}
 use Rattle.master_script.specs.Progress.{Phase, Commissioning, Settling, Arming, Running, Progress, progress, after}
@@ -22,15 +22,15 @@ use Rattle.master_script.specs.declared.step.Refusal.{Refusal}
 use Rattle.master_script.specs.declared.step.Refusal.TheVariants.{Lost}
 use Rattle.master_script.specs.declared.step.Step.{Step}
 use Rattle.master_script.specs.declared.step.Step.TheVariants.{Count, Identify}
-use Rattle.master_script.proofs.Folds.{progress_push}
+use Rattle.master_script.proofs.Exported.{progress_push}
 use Rattle.segment_file.specs.Legal.{IsLegal}
 use Rattle.segment_file.specs.Segment.{SegmentValue, tree_rows}
-use Rattle.segment_file.proofs.LegalLemmas.{legal_reference}
+use Rattle.segment_file.proofs.Exported.{legal_reference}
 use Rattle.segment_start.specs.Start.{started_segment}
-use Rattle.segment_start.proofs.Starts.{starts_timely}
+use Rattle.segment_start.proofs.Exported.{starts_timely}
 use Rattle.run_of_file.specs.MasterOfFile.{master_of}
 use Rattle.run_of_file.specs.RunOfFile.{RunEnd, turns, call_run, next_call, followed_by, frames_given, commissioned, settled, armed, ran}
-use Rattle.run_of_file.proofs.InRange.{as_many_kinds, some_rows}
+use Rattle.run_of_file.proofs.Exported.{as_many_kinds, some_rows}
 use Rattle.honest_runs.specs.FileSlaves.{kind_at, status_at}
 use Rattle.honest_runs.proofs.Progressing.{IsHonest, IsLoss}
 use Rattle.honest_runs.proofs.Beginning.{begins}

@@ -18,8 +18,7 @@ use Rattle.master_script.specs.declared.step.Step.{Step}
 use Rattle.master_script.specs.declared.step.Step.TheVariants.{Count, Identify, Rate, Latch, Times, Set, Settle, Drift, Arm}
 use Rattle.named_slaves.specs.Mindful.{AreMindful}
 use Rattle.honest_replies.specs.Told.{words_of, AreInOrder, Knows, IsMeant, IsNear, counts_of}
-use Rattle.honest_replies.proofs.Mindful.{mindful_step}
-use Rattle.honest_replies.proofs.Replies.{count_counts, later_counts, judged_none}
+use Rattle.honest_replies.proofs.Exported.{mindful_step, count_counts, later_counts, judged_none}
 use Rattle.honest_runs.proofs.Progressing.{identifying, IsEarly, IsLate, IsOver}
 use Rattle.honest_runs.proofs.Meant.{arming_meant}
 use Rattle.honest_runs.proofs.Returning.{came_back, undisturbed, order_stays}

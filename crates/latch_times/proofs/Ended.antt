@@ -4,7 +4,7 @@ use Rattle.std.specs.Prelude.{slice_index_or}
 use Rattle.dc_bounds.specs.LockNumbers.{period_fs}
 use Rattle.dc_delay.specs.declared.latch.Latch.{Latch}
 use Rattle.ecat_link.specs.Serves.{End, Sends}
-use Rattle.ecat_link.proofs.Driving.{driven}
+use Rattle.ecat_link.proofs.Exported.{driven}
 use Rattle.segment_file.specs.Legal.{IsLegal}
 use Rattle.segment_file.specs.Segment.{SegmentValue, measures_at}
 use Rattle.segment_shape.specs.Slaves.{measures}
@@ -14,10 +14,9 @@ use Rattle.master_script.specs.Begins.{Begins}
 use Rattle.master_script.specs.Progress.{Commissioning, Settling, Progress, later_steps, progress}
 use Rattle.master_script.specs.Script.{Answer, Commission, script}
 use Rattle.master_script.specs.declared.step.Step.TheVariants.{Latch as LatchStep}
-use Rattle.master_script.proofs.Calls.{commission_done}
+use Rattle.master_script.proofs.Exported.{commission_done}
 use Rattle.honest_runs.specs.FileSlaves.{kind_at, row_at, status_at}
-use Rattle.honest_runs.proofs.Progressing.{IsLate}
-use Rattle.honest_runs.proofs.Positions.{row_has}
+use Rattle.honest_runs.proofs.Exported.{IsLate, row_has}
 use Rattle.run_of_file.specs.MasterOfFile.{master_of}
 use Rattle.run_of_file.specs.RunOfFile.{RunEnd, commissioned, turns}
 use Rattle.latch_times.specs.HeldTimes.{AllHold}

@@ -7,7 +7,7 @@ use Rattle.frame_pass.specs.DatagramAtSlave.{slave_after}
 use Rattle.frame_pass.specs.FramePass.{datagrams_behind}
 use Rattle.frame_pass.specs.PlainRegisters.{AreLeft}
 use Rattle.visit_laws.specs.Aside.{AreAside, HaveSize, never_writes}
-use Rattle.visit_laws.proofs.Asides.{apart_where_written, aside_behind}
+use Rattle.visit_laws.proofs.Exported.{apart_where_written, aside_behind}
 use Rattle.master_script.specs.Config.{ConfigValue}
 use Rattle.master_script.specs.Steps.{datagrams_of}
 use Rattle.master_script.specs.Words.{Words}

@@ -11,13 +11,13 @@ use Rattle.frame_pass.specs.FramePass.{are_latching, at_arrival, datagrams_behin
 use Rattle.frame_pass.specs.Invariants.{IsSoundSegment}
 use Rattle.frame_pass.specs.Reach.{reach_of}
 use Rattle.frame_pass.specs.SegmentState.{SegmentState, leaves_at, segment_step}
-use Rattle.frame_pass.proofs.Fixed.{fixed_passed}
-use Rattle.visit_laws.proofs.Asides.{never_latching}
+use Rattle.frame_pass.proofs.Exported.{fixed_passed}
+use Rattle.visit_laws.proofs.Exported.{never_latching}
 use Rattle.master_script.specs.Frames.{latch_datagrams}
-use Rattle.honest_replies.proofs.ByKind.{latch_for_measuring}
+use Rattle.honest_replies.proofs.Exported.{latch_for_measuring}
 use Rattle.honest_runs.specs.FileSlaves.{kind_at}
-use Rattle.honest_runs.proofs.Returning.{CameBack}
-use Rattle.named_slaves.proofs.Frames.{low_where}
+use Rattle.honest_runs.proofs.Exported.{CameBack}
+use Rattle.named_slaves.proofs.Exported.{low_where}
 use Rattle.latch_times.specs.Resting.{AllRest, Rests, row_there}
 use Rattle.latch_times.specs.HeldTimes.{AllHold, HoldsTimes}
 use Rattle.latch_times.proofs.Far.{AreFar, far_behind, far_left}

@@ -1,12 +1,13 @@
-pub mod Resting
-pub mod Far
-pub mod Passing
-pub mod LatchFrames
-pub mod Stepping
-pub mod Places
-pub mod Widths
-pub mod Told
-pub mod Measuring
-pub mod Frames
-pub mod Runs
-pub mod Ended
+mod Resting
+mod Far
+mod Passing
+mod LatchFrames
+mod Stepping
+mod Places
+mod Widths
+mod Told
+mod Measuring
+mod Frames
+mod Runs
+mod Ended
+pub mod Exported

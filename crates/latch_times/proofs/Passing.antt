@@ -9,20 +9,16 @@ use Rattle.ecat_frame.specs.FrameGrammar.{DatagramValue}
 use Rattle.esc_regs.specs.RegisterFile.{Registers}
 use Rattle.osc_clock.specs.Ticks.{IsRunning}
 use Rattle.local_clock.specs.Reading.{AreInOrder, Clock, Happening, reading_at}
-use Rattle.local_clock.proofs.History.{stands}
+use Rattle.local_clock.proofs.Exported.{stands}
 use Rattle.segment_file.specs.Segment.{RowValue, oscillator}
 use Rattle.frame_pass.specs.SlaveState.{Slave, Timing, Visits, holds, width}
 use Rattle.frame_pass.specs.ClockHistory.{HasHistory, IsOfTiming, events_passed}
 use Rattle.frame_pass.specs.FramePass.{are_latching, at_arrival, slave_passed}
 use Rattle.frame_pass.specs.PlainRegisters.{AreLeft}
-use Rattle.frame_pass.proofs.Fixed.{fixed_passed}
-use Rattle.frame_pass.proofs.History.{of_passed, of_start}
-use Rattle.frame_pass.proofs.Sizes.{HasSize}
+use Rattle.frame_pass.proofs.Exported.{fixed_passed, of_passed, of_start, HasSize}
 use Rattle.visit_laws.specs.ReceiveTimes.{AreInTurn, AreReceiveTimes, IsReceiveTime, port_time, until}
 use Rattle.visit_laws.specs.Rest.{AreResets}
-use Rattle.visit_laws.proofs.Latching.{quiet_passed}
-use Rattle.visit_laws.proofs.Ports.{goes_behind, latched_passed}
-use Rattle.visit_laws.proofs.Resting.{resets_passed}
+use Rattle.visit_laws.proofs.Exported.{quiet_passed, goes_behind, latched_passed, resets_passed}
 use Rattle.latch_times.specs.Resting.{Rests, shown_at}
 use Rattle.latch_times.specs.HeldTimes.{HoldsTimes, back_into, port_register}
 use Rattle.latch_times.proofs.Resting.{Counts, counts_at}

@@ -15,13 +15,11 @@ use Rattle.osc_clock.specs.Ticks.{IsRunning}
 use Rattle.segment_shape.specs.Slaves.{greatest_start, measures}
 use Rattle.segment_file.specs.Legal.{IsClock, IsLegal, KeepsTime}
 use Rattle.segment_file.specs.Segment.{RowValue, SegmentValue, oscillator, tree_rows}
-use Rattle.segment_file.proofs.ClockLaws.{legal_clocks}
-use Rattle.segment_file.proofs.LegalLemmas.{row_within}
+use Rattle.segment_file.proofs.Exported.{legal_clocks, row_within}
 use Rattle.segment_start.specs.Start.{no_row, registers_of, slave_of, started_segment, timing_by, visits_of}
-use Rattle.segment_start.proofs.Starts.{as_many, stands_at}
-use Rattle.segment_start.proofs.Visits.{row_in_turn}
+use Rattle.segment_start.proofs.Exported.{as_many, stands_at, row_in_turn}
 use Rattle.frame_pass.specs.SlaveState.{Slave, Timing, Visits, fixed_part, width}
-use Rattle.named_slaves.proofs.Frames.{low_where}
+use Rattle.named_slaves.proofs.Exported.{low_where}
 use Rattle.visit_laws.specs.ReceiveTimes.{AreInTurn}
 use Rattle.honest_runs.specs.FileSlaves.{kind_at, row_at}
 use Rattle.latch_times.specs.Resting.{AllRest, Rests, row_there, shown_at}

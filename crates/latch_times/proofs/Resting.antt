@@ -3,12 +3,11 @@ use Rattle.std.proofs.Common.{◌≡◌, ℕ, ◌+◌, ◌*◌, ◌%◌, ◌^◌
 use Rattle.std.specs.Prelude.{pos, if◌then◌else◌}
 use Rattle.std.proofs.lemmas.Bool.{cases_lt}
 use Rattle.osc_clock.specs.Ticks.{Oscillator, IsRunning, ticks}
-use Rattle.osc_clock.proofs.TickLaws.{ticks_rise}
+use Rattle.osc_clock.proofs.Exported.{ticks_rise}
 use Rattle.local_clock.specs.StepRule.{Steering, elapsed, steered}
 use Rattle.local_clock.specs.Reading.{AreInOrder, Clock, Event, Happening, advanced, after_event, clock_at, received, reset, steering_of, ticks_to}
-use Rattle.local_clock.proofs.History.{is_after, is_until}
-use Rattle.local_clock.proofs.Steady.{rests}
-use Rattle.wrap_time.proofs.Cuts.{sum_of_cut}
+use Rattle.local_clock.proofs.Exported.{is_after, is_until, rests}
+use Rattle.wrap_time.proofs.Exported.{sum_of_cut}
 use Rattle.visit_laws.specs.Rest.{AreResets, IsReset}
 
 module _ (x w : ℕ) (o : Oscillator) (run : IsRunning o) where

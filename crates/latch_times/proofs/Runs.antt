@@ -14,16 +14,15 @@ use Rattle.ecat_link.specs.Exchanges.{Exchange, Runs}
 use Rattle.ecat_link.specs.Serves.{Send, Sends}
 use Rattle.segment_file.specs.Legal.{IsLegal}
 use Rattle.segment_file.specs.Segment.{SegmentValue, tree_rows}
-use Rattle.segment_file.proofs.LegalLemmas.{legal_reference}
+use Rattle.segment_file.proofs.Exported.{legal_reference}
 use Rattle.segment_shape.specs.Slaves.{measures}
 use Rattle.segment_start.specs.Start.{started_segment}
-use Rattle.segment_start.proofs.Starts.{as_many, starts_timely}
+use Rattle.segment_start.proofs.Exported.{as_many, starts_timely}
 use Rattle.frame_pass.specs.FramePass.{datagrams_behind}
 use Rattle.frame_pass.specs.SlaveState.{Slave, Timing, width as clock_width}
 use Rattle.frame_pass.specs.Invariants.{IsSoundSegment}
 use Rattle.frame_pass.specs.SegmentState.{SegmentState, leaves_at, segment_step}
-use Rattle.frame_pass.proofs.Schedule.{next_leaves}
-use Rattle.frame_pass.proofs.Sound.{timely_step}
+use Rattle.frame_pass.proofs.Exported.{next_leaves, timely_step}
 use Rattle.master_script.specs.Config.{ConfigValue}
 use Rattle.master_script.specs.Frames.{times_datagrams, width as bytes_by}
 use Rattle.master_script.specs.Progress.{Commissioning, Progress, after, asked, asked_by, counted, later_steps, moved, progress}
@@ -33,23 +32,16 @@ use Rattle.master_script.specs.Steps.{datagrams_of, frame_of, latch_in}
 use Rattle.master_script.specs.Words.{wide_at}
 use Rattle.master_script.specs.declared.step.Step.{Step}
 use Rattle.master_script.specs.declared.step.Step.TheVariants.{Count, Identify, Rate, Latch as LatchStep, Times, Set}
-use Rattle.master_script.proofs.Folds.{progress_push}
-use Rattle.master_script.proofs.Wants.{wants}
-use Rattle.master_script.proofs.Within.{IsOf}
-use Rattle.named_slaves.proofs.Frames.{had_before, same_many}
+use Rattle.master_script.proofs.Exported.{progress_push, wants, IsOf}
+use Rattle.named_slaves.proofs.Exported.{had_before, same_many}
 use Rattle.honest_replies.specs.Told.{IsMeant}
-use Rattle.honest_replies.proofs.Mindful.{mindful_step}
+use Rattle.honest_replies.proofs.Exported.{mindful_step}
 use Rattle.honest_runs.specs.FileSlaves.{kind_at, status_at}
-use Rattle.honest_runs.proofs.Progressing.{IsHonest, IsLate}
-use Rattle.honest_runs.proofs.Beginning.{begins}
-use Rattle.honest_runs.proofs.Judged.{judged_ok}
-use Rattle.honest_runs.proofs.Returning.{came_back}
-use Rattle.honest_runs.proofs.Turning.{sent_by}
-use Rattle.honest_runs.proofs.Turns.{honest_turn}
+use Rattle.honest_runs.proofs.Exported.{IsHonest, IsLate, begins, judged_ok, came_back, sent_by, honest_turn}
 use Rattle.run_of_file.specs.MasterOfFile.{master_of}
 use Rattle.run_of_file.specs.RunOfFile.{frames_given}
-use Rattle.run_of_file.proofs.InRange.{as_many_kinds, some_rows}
-use Rattle.run_numbers.proofs.Numbers.{InStep, in_phase, master_frame_ns, some_kinds, starts_in_step, step_in_step}
+use Rattle.run_of_file.proofs.Exported.{as_many_kinds, some_rows}
+use Rattle.run_numbers.proofs.Exported.{InStep, in_phase, master_frame_ns, some_kinds, starts_in_step, step_in_step}
 use Rattle.latch_times.specs.Resting.{AllRest, row_there, shown_at}
 use Rattle.latch_times.specs.HeldTimes.{AllHold, HoldsTimes}
 use Rattle.latch_times.specs.ToldTimes.{TellsTimes}

@@ -18,20 +18,16 @@ use Rattle.segment_shape.specs.Slaves.{measures}
 use Rattle.visit_laws.specs.Counters.{slave_before}
 use Rattle.visit_laws.specs.Stations.{BringsBack, slave_found}
 use Rattle.visit_laws.specs.Aside.{never_writes}
-use Rattle.visit_laws.proofs.Asides.{idle}
-use Rattle.visit_laws.proofs.Counting.{is_sent}
-use Rattle.visit_laws.proofs.Effects.{times_left}
-use Rattle.visit_laws.proofs.Stations.{Found, found}
+use Rattle.visit_laws.proofs.Exported.{idle, is_sent, times_left, Found, found}
 use Rattle.master_script.specs.Frames.{asks, blank, station, times_datagrams, width}
 use Rattle.master_script.specs.Steps.{data_at, latch_in}
 use Rattle.named_slaves.specs.Addressed.{ByStation}
 use Rattle.named_slaves.specs.Mindful.{AreMindful}
 use Rattle.named_slaves.specs.Standing.{Stands, own_address}
-use Rattle.named_slaves.proofs.Answering.{read_there}
-use Rattle.named_slaves.proofs.Frames.{found_standing, low_where}
+use Rattle.named_slaves.proofs.Exported.{read_there, found_standing, low_where}
 use Rattle.honest_replies.specs.Told.{AreInOrder}
 use Rattle.latch_times.specs.HeldTimes.{port_register}
-use Rattle.honest_replies.proofs.ByKind.{IsFor, ports_for_measuring, unit_for_measuring}
+use Rattle.honest_replies.proofs.Exported.{IsFor, ports_for_measuring, unit_for_measuring}
 
 -- the datagram that reads the receive times of the ports, and that of the processing unit
 abbrev asked : ℕ → DatagramValue

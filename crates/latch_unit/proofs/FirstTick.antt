@@ -1,7 +1,7 @@
 -- The tick that takes an event.
 use Rattle.std.proofs.Common.{ℕ, ◌-◌, ◌<◌, arith}
 use Rattle.osc_clock.specs.Ticks.{Oscillator, IsRunning, instant}
-use Rattle.osc_clock.proofs.TickLaws.{next_after, not_after, number_first}
+use Rattle.osc_clock.proofs.Exported.{next_after, not_after, number_first}
 use Rattle.latch_unit.specs.Stamp.{first_tick_from, IsFirstTickFrom}
 
 pub first_tick : (o : Oscillator) (t : ℕ) → IsRunning o → IsFirstTickFrom o t (first_tick_from o t)

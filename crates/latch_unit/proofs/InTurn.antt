@@ -5,7 +5,7 @@ use Rattle.std.proofs.lemmas.Bool.{cases_lt}
 use Rattle.std.proofs.lemmas.Bool.Decides.{nat_tests}
 use Rattle.osc_clock.specs.Ticks.{IsRunning}
 use Rattle.local_clock.specs.Reading.{Clock, advanced}
-use Rattle.local_clock.proofs.ManyTicks.{advanced_twice}
+use Rattle.local_clock.proofs.Exported.{advanced_twice}
 use Rattle.latch_unit.specs.Stamp.{taken_at, is_taken, stamp_by, expected_after}
 
 pub taken : (c : Clock) (t event : ℕ) → c.instant < taken_at c.osc event → taken_at c.osc event ≤ t → is_taken c t event ≡ true

@@ -5,7 +5,7 @@ use Rattle.std.proofs.lemmas.Int.{ints}
 use Rattle.std.proofs.lemmas.Bool.{cases_lt}
 use Rattle.std.proofs.lemmas.Bool.Decides.{nat_tests}
 use Rattle.wrap_time.specs.NearNumbers.{AreNear}
-use Rattle.wrap_time.proofs.Near.{word_difference_near}
+use Rattle.wrap_time.proofs.Exported.{word_difference_near}
 use Rattle.local_clock.specs.FirstReaching.{is_negative, is_behind}
 
 sign : (u v : ℕ) → is_negative (pos u -ℤ pos v) ≡ nat_lt u v

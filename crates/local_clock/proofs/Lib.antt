@@ -1,12 +1,13 @@
 mod AtOnce
-pub mod Elapsed
-pub mod Within
-pub mod Reaching
-pub mod ManyTicks
-pub mod WorkedOff
-pub mod History
-pub mod LocalTime
-pub mod Steady
-pub mod Behind
+mod Elapsed
+mod Within
+mod Reaching
+mod ManyTicks
+mod WorkedOff
+mod History
+mod LocalTime
+mod Steady
+mod Behind
 mod Rounds
 mod Share
+pub mod Exported

@@ -5,9 +5,9 @@ use Rattle.std.proofs.lemmas.Bool.{cases_lt}
 use Rattle.std.proofs.lemmas.List.Elements.{All-head, All-tail}
 use Rattle.std.proofs.Math.Nat.{mod-add-mod}
 use Rattle.wrap_time.specs.WordLess.{word_less}
-use Rattle.wrap_time.proofs.Cuts.{latched_difference, offset_sum}
+use Rattle.wrap_time.proofs.Exported.{latched_difference, offset_sum}
 use Rattle.osc_clock.specs.Ticks.{IsRunning, ticks}
-use Rattle.osc_clock.proofs.TickLaws.{ticks_rise}
+use Rattle.osc_clock.proofs.Exported.{ticks_rise}
 use Rattle.local_clock.specs.StepRule.{steered, elapsed}
 use Rattle.local_clock.specs.Reading.{Clock, Event, Happening, received, reset, after_event, advanced, clock_at, reading_at, steering_of, ticks_to, AreUntil, AreInOrder}
 use Rattle.local_clock.specs.LocalTime.{whole_advanced, whole_clock_at, local_time, cut_to}

@@ -4,7 +4,7 @@ use Rattle.std.proofs.Common.{arith, sym, ap, ◌∙◌, refl, add-zero, add-suc
 use Rattle.std.proofs.lemmas.Int.{ints}
 use Rattle.std.proofs.Math.Nat.{mod-add-mod, mod-eq_of_lt}
 use Rattle.osc_clock.specs.Ticks.{IsRunning, ticks}
-use Rattle.osc_clock.proofs.TickLaws.{ticks_rise, ticks_at}
+use Rattle.osc_clock.proofs.Exported.{ticks_rise, ticks_at}
 use Rattle.local_clock.specs.StepRule.{Steering, nearer, corrected_step, step, next_of, next, steered, elapsed}
 use Rattle.local_clock.specs.Reading.{Clock, steering_of, ticks_to, reading_after, advanced}
 use Rattle.local_clock.specs.FirstReaching.{tick_after}

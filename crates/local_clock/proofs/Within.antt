@@ -4,7 +4,7 @@ use Rattle.std.proofs.Common.{arith, rules, refl, inl, inr}
 use Rattle.std.proofs.lemmas.Bool.{cases_lt}
 use Rattle.std.proofs.lemmas.Bool.Decides.{nat_tests}
 use Rattle.osc_clock.specs.Ticks.{Oscillator, IsRunning, ticks, instant}
-use Rattle.osc_clock.proofs.TickLaws.{instants_rise, reached}
+use Rattle.osc_clock.proofs.Exported.{instants_rise, reached}
 use Rattle.local_clock.specs.Reading.{Clock}
 use Rattle.local_clock.specs.FirstReaching.{tick_after, within_time}
 

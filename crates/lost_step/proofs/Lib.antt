@@ -1,4 +1,5 @@
-pub mod Asking
-pub mod Turns
-pub mod Rows
-pub mod Commission
+mod Asking
+mod Turns
+mod Rows
+mod Commission
+pub mod Exported

@@ -4,7 +4,7 @@ use Rattle.std.proofs.lemmas.Bool.Decides.{nat_tests}
 use Rattle.ecat_frame.specs.FrameGrammar.{FrameValue}
 use Rattle.ecat_link.specs.Exchanges.{Exchange, StepOf, Follows}
 use Rattle.ecat_link.specs.Serves.{Send, Serves}
-use Rattle.ecat_link.proofs.Serving.{serves_one, serves_then}
+use Rattle.ecat_link.proofs.Exported.{serves_one, serves_then}
 use Rattle.master_script.specs.Config.{ConfigValue}
 use Rattle.master_script.specs.Judged.{judged}
 use Rattle.master_script.specs.Progress.{Phase, Commissioning, Arming, Progress, progress, after, asked_by, lost_at, lost_one, drift_one, answered}

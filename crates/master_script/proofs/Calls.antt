@@ -5,7 +5,7 @@ use Rattle.std.proofs.lemmas.List.{append-nil, length-map, nil_from_length}
 use Rattle.ecat_frame.specs.FrameGrammar.{FrameValue}
 use Rattle.ecat_link.specs.Exchanges.{Exchange, lost_among}
 use Rattle.ecat_link.specs.Serves.{Send, End, Sends}
-use Rattle.ecat_link.proofs.Losses.{lost_then}
+use Rattle.ecat_link.proofs.Exported.{lost_then}
 use Rattle.master_script.specs.Begins.{Begins}
 use Rattle.master_script.specs.Config.{ConfigValue, settle_frames}
 use Rattle.master_script.specs.Judged.{judged}

@@ -8,8 +8,7 @@ use Rattle.byteorder.specs.Numbers.{length-bytes_low_first}
 use Rattle.ecat_frame.specs.Built.{built, size_of}
 use Rattle.ecat_frame.specs.FrameGrammar.{AreBytes, DatagramValue, IsDatagram, IsFrame}
 use Rattle.ecat_frame.specs.declared.command.Command.{Command}
-use Rattle.ecat_frame.proofs.Build.{IsFrame-built}
-use Rattle.ecat_frame.proofs.Datagrams.{length-all_spelled}
+use Rattle.ecat_frame.proofs.Exported.{IsFrame-built, length-all_spelled}
 use Rattle.wrap_time.specs.WordLess.{word_less}
 use Rattle.std.specs.List.{All}
 use Rattle.master_script.specs.Config.{ConfigValue, plan_at}

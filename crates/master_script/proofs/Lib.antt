@@ -1,20 +1,21 @@
-pub mod Folds
-pub mod Pins
-pub mod Counts
-pub mod Trees
-pub mod Asks
-pub mod Drifts
-pub mod Ends
-pub mod Limits
-pub mod Todo
-pub mod Within
-pub mod Grammar
-pub mod Wants
-pub mod Replies
-pub mod Known
-pub mod Staying
-pub mod Stages
-pub mod Worked
-pub mod Judging
-pub mod Sendings
-pub mod Calls
+mod Folds
+mod Pins
+mod Counts
+mod Trees
+mod Asks
+mod Drifts
+mod Ends
+mod Limits
+mod Todo
+mod Within
+mod Grammar
+mod Wants
+mod Replies
+mod Known
+mod Staying
+mod Stages
+mod Worked
+mod Judging
+mod Sendings
+mod Calls
+pub mod Exported

@@ -10,7 +10,7 @@ use Rattle.dc_bounds.specs.Weight.{flag}
 use Rattle.dc_delay.specs.Latched.{laps, measures}
 use Rattle.dc_delay.specs.MeasuredDelay.{delay_list}
 use Rattle.dc_delay.specs.ShapeRows.{positions, rows_of}
-use Rattle.dc_delay.proofs.Listing.{listed, other_entry, timed_entry}
+use Rattle.dc_delay.proofs.Exported.{listed, other_entry, timed_entry}
 use Rattle.master_script.specs.Config.{ConfigValue, settle_frames}
 use Rattle.master_script.specs.Kept.{kept_after, is_times, has_delays, stage_by, stage_in, run_stage}
 use Rattle.master_script.specs.Progress.{Phase, Commissioning, Settling, Arming, Running, Progress, progress}

@@ -7,7 +7,7 @@ use Rattle.dc_topology.specs.Listed.{Place, places, Lists}
 use Rattle.dc_topology.specs.Refusals.{IsRefused}
 use Rattle.dc_topology.specs.declared.error.TopologyError.{TopologyError}
 use Rattle.dc_topology.specs.declared.error.TopologyError.TheVariants.{BadStatus}
-use Rattle.dc_topology.proofs.Steps.{IsPass, before_all, one_more, all_listed, surplus, bad_status, missing, moved}
+use Rattle.dc_topology.proofs.Exported.{IsPass, before_all, one_more, all_listed, surplus, bad_status, missing, moved}
 use Rattle.master_script.specs.ListedTree.{walk, tree_of, behind}
 
 -- what a walk from there says of all statuses

@@ -10,7 +10,7 @@ use Rattle.master_script.specs.declared.step.Refusal.{Refusal}
 use Rattle.master_script.specs.declared.step.Refusal.TheVariants.{Lost, Counter, Reply, Topology, NoReference, Unmeasurable}
 use Rattle.master_script.specs.declared.step.Step.{Step}
 use Rattle.master_steps.specs.Asking.{IsCauseAt, IsReceived}
-use Rattle.master_script.proofs.Replies.{counter_told, reply_told}
+use Rattle.master_script.proofs.Exported.{counter_told, reply_told}
 
 -- what is refused by a judgement names the step, and is no loss and nothing of the slaves
 abbrev pub OfStep : Step → Refusal → Type 0

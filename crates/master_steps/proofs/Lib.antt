@@ -1,7 +1,8 @@
-pub mod Left
+mod Left
 mod Miscounts
-pub mod Trying
-pub mod Shapes
+mod Trying
+mod Shapes
 mod Received
-pub mod Causes
-pub mod Counting
+mod Causes
+mod Counting
+pub mod Exported

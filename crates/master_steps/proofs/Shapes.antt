@@ -3,7 +3,7 @@ use Rattle.std.proofs.Common.{◌≡◌, ◌==◌, cond, ℕ, List, [], ◌∷�
 use Rattle.std.proofs.lemmas.List.{length-replicate}
 use Rattle.ecat_frame.specs.Difference.{first_difference, wiped_datagram}
 use Rattle.ecat_frame.specs.FrameGrammar.{DatagramValue, FrameValue, IsFrame}
-use Rattle.ecat_frame.proofs.Wiped.{none_is_same}
+use Rattle.ecat_frame.proofs.Exported.{none_is_same}
 use Rattle.master_steps.specs.Asking.{sizes}
 use Rattle.master_script.specs.Config.{ConfigValue}
 use Rattle.master_script.specs.Frames.{width}

@@ -3,7 +3,7 @@ use Rattle.std.proofs.Common.{◌≡◌, ℕ, ◌+◌, ◌<◌, List, ◌∷◌,
 use Rattle.ecat_frame.specs.FrameGrammar.{FrameValue}
 use Rattle.ecat_link.specs.Exchanges.{Exchange, StepOf, Follows}
 use Rattle.ecat_link.specs.Serves.{Serves}
-use Rattle.ecat_link.proofs.Serving.{serves_none, serves_weaker}
+use Rattle.ecat_link.proofs.Exported.{serves_none, serves_weaker}
 use Rattle.master_steps.specs.Asking.{AfterTries, Asks, call_of, one_sent, phase_of}
 use Rattle.master_steps.specs.declared.exchange.Counters.{Counters}
 use Rattle.master_script.specs.Config.{ConfigValue}
@@ -14,7 +14,7 @@ use Rattle.master_script.specs.Steps.{expected, frame_of}
 use Rattle.master_script.specs.Words.{Words}
 use Rattle.master_script.specs.declared.step.Step.{Step}
 use Rattle.master_script.specs.declared.step.Step.TheVariants.{Arm}
-use Rattle.master_script.proofs.Asks.{AsksIn, Sent, asking, ask_lost, ask_came}
+use Rattle.master_script.proofs.Exported.{AsksIn, Sent, asking, ask_lost, ask_came}
 
 abbrev pub sent_of : Counters → Sent
 sent_of n = record { sent = n.sent; lost = n.lost; drifts = n.drifts }

@@ -15,11 +15,9 @@ use Rattle.segment_file.specs.Legal.{IsLegal}
 use Rattle.segment_file.specs.Segment.{SegmentValue}
 use Rattle.segment_file.specs.Told.{IsSegmentText}
 use Rattle.segment_file.specs.Written.{segment_text}
-use Rattle.segment_file.proofs.AnswerLemmas.{one_segment}
-use Rattle.segment_file.proofs.WrittenLemmas.{text_legal, written_text}
+use Rattle.segment_file.proofs.Exported.{one_segment, text_legal, written_text}
 use Rattle.segment_text.specs.Migrated.{migrated}
-use Rattle.segment_text.proofs.FileLength.{text_short}
-use Rattle.segment_text.proofs.MigratedLemmas.{migrated_legal}
+use Rattle.segment_text.proofs.Exported.{text_short, migrated_legal}
 use Rattle.dc_words.specs.declared.command.Command.{Command}
 use Rattle.dc_words.specs.declared.command.Command.TheVariants.{Run, Delays, Check, Migrate}
 use Rattle.dc_top.specs.Answers.{OfFile, RefusesBy, RefusesDriven, RefusesFile, RefusesRun, ServedBy, Writes, input_limit}

@@ -16,15 +16,12 @@ use Rattle.esc_regs.specs.RegisterTable.{held}
 use Rattle.esc_regs.specs.RegisterWrite.{written}
 use Rattle.esc_regs.specs.declared.clock_kind.ClockKind.{ClockKind}
 use Rattle.esc_regs.specs.declared.clock_kind.ClockKind.TheVariants as kind
-use Rattle.esc_regs.proofs.Storing.{untouched}
+use Rattle.esc_regs.proofs.Exported.{untouched}
 use Rattle.frame_pass.specs.SlaveState.{Slave, holds, station}
 use Rattle.frame_pass.specs.DatagramTable.{Passes, Writes, when, doing_by, writes, reads, raises_adp, raised_by}
 use Rattle.frame_pass.specs.DatagramAtSlave.{is_refused_by, doing, slave_after, datagram_after}
-use Rattle.frame_pass.proofs.Plain.{plain_datagram}
-use Rattle.frame_pass.proofs.Sizes.{HasSize}
-use Rattle.visit_laws.proofs.Asides.{is_plain, idle, same_size}
-use Rattle.visit_laws.proofs.Drifting.{left_unwritten, kept_unread}
-use Rattle.visit_laws.proofs.Storage.{stores_number}
+use Rattle.frame_pass.proofs.Exported.{plain_datagram, HasSize}
+use Rattle.visit_laws.proofs.Exported.{is_plain, idle, same_size, left_unwritten, kept_unread, stores_number}
 use Rattle.named_slaves.specs.Standing.{HasAddress, own_address, Stands}
 use Rattle.named_slaves.specs.Mindful.{Names, IsMindful}
 use Rattle.named_slaves.proofs.Parts.{slave_stays}

@@ -14,18 +14,12 @@ use Rattle.frame_pass.specs.FramePass.{slave_behind, slave_passed, datagrams_aft
 use Rattle.frame_pass.specs.Invariants.{IsSound, IsSoundSegment}
 use Rattle.frame_pass.specs.Reach.{reach_of}
 use Rattle.frame_pass.specs.SegmentState.{SegmentState, segment_step, leaves_at}
-use Rattle.frame_pass.proofs.AtPositions.{step_reached, step_stays}
-use Rattle.frame_pass.proofs.Fixed.{fixed_advanced, fixed_passed, same_step}
-use Rattle.frame_pass.proofs.Keeping.{kept_passed}
-use Rattle.frame_pass.proofs.Plain.{plain_time, plain_passed}
-use Rattle.frame_pass.proofs.Sizes.{HasSize}
-use Rattle.frame_pass.proofs.Sound.{keeps_sound, visited}
+use Rattle.frame_pass.proofs.Exported.{step_reached, step_stays, fixed_advanced, fixed_passed, same_step, kept_passed, plain_time}
+use Rattle.frame_pass.proofs.Exported.{plain_passed, HasSize, keeps_sound, visited}
 use Rattle.visit_laws.specs.Counters.{slave_before}
 use Rattle.visit_laws.specs.Drift.{first_behind}
-use Rattle.visit_laws.proofs.Drifting.{first_is}
+use Rattle.visit_laws.proofs.Exported.{first_is, is_plain, size_advanced}
 use Rattle.visit_laws.specs.Stations.{slave_found}
-use Rattle.visit_laws.proofs.Asides.{is_plain}
-use Rattle.visit_laws.proofs.Effects.{size_advanced}
 use Rattle.named_slaves.specs.Standing.{IsSlave, HasAddress, Stands, AreStanding}
 use Rattle.named_slaves.specs.Mindful.{Names, AreMindful}
 use Rattle.named_slaves.proofs.Parts.{slave_stays, features_plain, status_plain}

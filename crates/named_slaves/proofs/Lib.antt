@@ -1,4 +1,5 @@
-pub mod Parts
-pub mod Addresses
-pub mod Frames
-pub mod Answering
+mod Parts
+mod Addresses
+mod Frames
+mod Answering
+pub mod Exported

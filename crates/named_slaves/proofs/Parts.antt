@@ -9,16 +9,14 @@ use Rattle.esc_regs.specs.RegisterAccess.{rate_by}
 use Rattle.esc_regs.specs.RegisterWrite.{written, told}
 use Rattle.esc_regs.specs.declared.answers.Written.{Written}
 use Rattle.esc_regs.specs.declared.clock_kind.ClockKind.{ClockKind}
-use Rattle.esc_regs.proofs.Storing.{unwritable, written_kind}
+use Rattle.esc_regs.proofs.Exported.{unwritable, written_kind}
 use Rattle.frame_pass.specs.SlaveState.{Timing, Measuring, Slave, holds, on_measuring_of}
 use Rattle.frame_pass.specs.WriteEffects.{latched, compared, reset_by, activated, affected, wrote, arms}
 use Rattle.frame_pass.specs.DatagramTable.{writes}
 use Rattle.frame_pass.specs.DatagramAtSlave.{doing, slave_after}
 use Rattle.frame_pass.specs.PlainRegisters.{IsPlain}
-use Rattle.frame_pass.proofs.Plain.{plain_datagram}
-use Rattle.frame_pass.proofs.Sizes.{HasSize}
-use Rattle.visit_laws.proofs.Latching.{size_after}
-use Rattle.visit_laws.proofs.Table.{is_shut, shut}
+use Rattle.frame_pass.proofs.Exported.{plain_datagram, HasSize}
+use Rattle.visit_laws.proofs.Exported.{size_after, is_shut, shut}
 use Rattle.named_slaves.specs.Standing.{IsSlave}
 
 -- the kind

@@ -1,7 +1,8 @@
-pub mod Gaps
+mod Gaps
 mod Pieces
 mod Walks
-pub mod TickLaws
+mod TickLaws
 mod ByShare
 mod Steady
 mod Kept
+pub mod Exported

@@ -10,13 +10,13 @@ use Rattle.std.proofs.lemmas.List.Sorted.{IsNonDecreasingBy-push}
 use Rattle.cable_tree.specs.FrameOrder.{order}
 use Rattle.segment_file.specs.Legal.{IsLegal}
 use Rattle.segment_file.specs.Segment.{SegmentValue, clock_at, is_clock, tree_rows}
-use Rattle.segment_file.proofs.LegalLemmas.{order_many, row_within}
+use Rattle.segment_file.proofs.Exported.{order_many, row_within}
 use Rattle.sync_units.specs.declared.edge.Signal.{Signal}
 use Rattle.sync_units.specs.declared.edge.Signal.TheVariants.{Sync0, Sync1}
 use Rattle.edge_report.specs.Edges.{AreCounted, AreEdges, HasSignal, IsEdge, edges_of, is_of, rank}
 use Rattle.edge_report.specs.Slaves.{no_slave, row_of, slave_at}
 use Rattle.edge_report.specs.declared.slave_edge.SlaveEdge.{SlaveEdge}
-use Rattle.edge_report.proofs.Sorting.{keeps_none}
+use Rattle.edge_report.proofs.Exported.{keeps_none}
 use Rattle.report_cases.specs.Runs.{IsRunBefore, IsRunTo}
 
 pushed_of : (p : ℕ) (signal : Signal) (edges : List SlaveEdge) (e : SlaveEdge) → edges_of p signal (edges ++ e ∷ []) ≡ edges_of p signal edges ++ (if is_of p signal e then e ∷ [] else [])

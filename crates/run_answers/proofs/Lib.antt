@@ -1,4 +1,5 @@
-pub mod Premise
-pub mod Whole
-pub mod Staying
-pub mod Lossless
+mod Premise
+mod Whole
+mod Staying
+mod Lossless
+pub mod Exported

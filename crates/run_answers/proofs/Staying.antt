@@ -4,19 +4,19 @@ use Rattle.std.specs.Prelude.{Ok, Err}
 use Rattle.std.proofs.lemmas.List.{length-map}
 use Rattle.cable_tree.specs.FrameOrder.{order}
 use Rattle.ecat_link.specs.Exchanges.{Exchange}
-use Rattle.ecat_link.proofs.Driving.{driven}
+use Rattle.ecat_link.proofs.Exported.{driven}
 use Rattle.frame_pass.specs.SegmentState.{segment_step}
-use Rattle.honest_runs.proofs.Delays.{delays_whole}
+use Rattle.honest_runs.proofs.Exported.{delays_whole}
 use Rattle.master_script.specs.Config.{ConfigValue}
 use Rattle.master_script.specs.Kept.{kept_after}
 use Rattle.master_script.specs.Script.{Answer, Arm, Call, Run, Settle, script}
-use Rattle.master_script.proofs.Staying.{stays_kept}
+use Rattle.master_script.proofs.Exported.{stays_kept}
 use Rattle.run_of_file.specs.MasterOfFile.{master_of}
 use Rattle.run_of_file.specs.RunOfFile.{RunEnd, armed, call_run, commissioned, followed_by, frames_given, master_after, next_call, ran, run_of, settled, turns}
-use Rattle.run_of_file.proofs.InRange.{as_many_kinds, some_rows}
+use Rattle.run_of_file.proofs.Exported.{as_many_kinds, some_rows}
 use Rattle.segment_file.specs.Legal.{IsLegal}
 use Rattle.segment_file.specs.Segment.{SegmentValue, clock_at, tree_rows}
-use Rattle.segment_file.proofs.LegalLemmas.{order_many}
+use Rattle.segment_file.proofs.Exported.{order_many}
 use Rattle.run_answers.proofs.Whole.{whole_follows}
 
 -- what stood before a call that ended with Ok

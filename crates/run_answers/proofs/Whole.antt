@@ -5,7 +5,7 @@ use Rattle.lost_step.specs.LostStep.{lost_step_of}
 use Rattle.master_script.specs.Script.{Answer}
 use Rattle.run_of_file.specs.RunOfFile.{RunEnd, ran, rounded_off, run_of}
 use Rattle.run_schedule.specs.Answers.{answer_for}
-use Rattle.run_schedule.proofs.Joined.{ran_answers}
+use Rattle.run_schedule.proofs.Exported.{ran_answers}
 use Rattle.segment_file.specs.Legal.{IsLegal}
 use Rattle.segment_file.specs.Segment.{SegmentValue}
 use Rattle.run_answers.proofs.Premise.{honest_replies}

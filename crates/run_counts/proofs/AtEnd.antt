@@ -1,11 +1,11 @@
 -- What a master has counted at the end of a run.
 use Rattle.std.proofs.Common.{◌≡◌, ℕ, ◌+◌, ◌≤◌, ◌++◌, length, Option, None, Ok, ap, ◌∙◌, arith}
 use Rattle.ecat_link.specs.Exchanges.{lost_among}
-use Rattle.ecat_link.proofs.Losses.{lost_then}
+use Rattle.ecat_link.proofs.Exported.{lost_then}
 use Rattle.frame_pass.specs.SegmentState.{SegmentState}
 use Rattle.master_script.specs.Kept.{Kept}
 use Rattle.master_script.specs.Script.{Answer}
-use Rattle.master_script.proofs.Counts.{kept_counts}
+use Rattle.master_script.proofs.Exported.{kept_counts}
 use Rattle.run_counts.specs.Phases.{Phases}
 use Rattle.run_counts.specs.Transmissions.{AreCounted, HasCounted, commissioning_sends}
 use Rattle.run_counts.proofs.Counting.{commission_counted, phases_counted, whole_counted}

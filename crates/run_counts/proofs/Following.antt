@@ -2,18 +2,17 @@
 use Rattle.std.proofs.Common.{◌≡◌, ℕ, ◌+◌, List, [], ◌++◌, length, length-append, Some, refl, sym, ap, subst, ◌∙◌, append_assoc, arith}
 use Rattle.std.proofs.lemmas.List.{append-nil}
 use Rattle.ecat_link.specs.Exchanges.{Exchange, Runs}
-use Rattle.ecat_link.proofs.Serving.{runs_then}
+use Rattle.ecat_link.proofs.Exported.{runs_then}
 use Rattle.frame_pass.specs.SegmentState.{segment_step}
 use Rattle.master_script.specs.Script.{Arm, Call, Commission, Run, Settle}
 use Rattle.master_script.specs.Scripted.{IsLimited, none}
-use Rattle.master_script.proofs.Counts.{progress_sent}
+use Rattle.master_script.proofs.Exported.{progress_sent}
 use Rattle.run_counts.specs.Numbered.{AreNumbered}
 use Rattle.run_counts.proofs.Numbering.{Went, call_went, numbered_then}
 use Rattle.run_of_file.specs.MasterOfFile.{master_of}
 use Rattle.run_of_file.specs.RunOfFile.{RunEnd, armed, commissioned, frames_given, ran, settled}
-use Rattle.run_schedule.proofs.Commissioned.{has_commissioned}
-use Rattle.run_numbers.proofs.Following.{Followed, HasGone, IsLed, followed, led_on, off, on}
-use Rattle.run_numbers.proofs.Numbers.{frames_of, in_step, starts_in_step}
+use Rattle.run_schedule.proofs.Exported.{has_commissioned}
+use Rattle.run_numbers.proofs.Exported.{Followed, HasGone, IsLed, followed, led_on, off, on, frames_of, in_step, starts_in_step}
 use Rattle.segment_file.specs.Legal.{IsLegal}
 use Rattle.segment_file.specs.Segment.{SegmentValue}
 use Rattle.segment_shape.specs.declared.loss_row.Phase.{Phase}

@@ -1,5 +1,6 @@
-pub mod Numbering
-pub mod Following
-pub mod Counting
-pub mod Few
-pub mod AtEnd
+mod Numbering
+mod Following
+mod Counting
+mod Few
+mod AtEnd
+pub mod Exported

@@ -2,12 +2,11 @@
 use Rattle.std.proofs.Common.{◌≡◌, List, ◌++◌, Option, Some, None, Ok, Err, refl, sym, subst}
 use Rattle.ecat_link.specs.Exchanges.{Exchange, Runs}
 use Rattle.ecat_link.specs.Serves.{Sends}
-use Rattle.ecat_link.proofs.Driving.{driven}
-use Rattle.ecat_link.proofs.Serving.{runs_then}
+use Rattle.ecat_link.proofs.Exported.{driven, runs_then}
 use Rattle.master_script.specs.Script.{Answer, Call, script}
 use Rattle.master_script.specs.Scripted.{AreScripted, IsLimited}
 use Rattle.master_script.specs.declared.step.MasterError.{MasterError}
-use Rattle.master_script.proofs.Limits.{calls_scripted}
+use Rattle.master_script.proofs.Exported.{calls_scripted}
 use Rattle.frame_pass.specs.SegmentState.{segment_step}
 use Rattle.segment_file.specs.Segment.{SegmentValue}
 use Rattle.segment_start.specs.Start.{started_segment}

@@ -5,7 +5,7 @@ use Rattle.ecat_link.specs.Serves.{Send}
 use Rattle.master_script.specs.Progress.{Phase, Progress, progress, after, drift_one}
 use Rattle.master_script.specs.Script.{script, Call, Commission, Settle, Arm, Run}
 use Rattle.master_script.specs.Scripted.{IsLimited}
-use Rattle.master_script.proofs.Counts.{after_counts, after_drifts}
+use Rattle.master_script.proofs.Exported.{after_counts, after_drifts}
 use Rattle.segment_file.specs.Segment.{SegmentValue}
 use Rattle.segment_file.specs.Legal.{IsLegal}
 use Rattle.run_of_file.specs.MasterOfFile.{master_of}

@@ -1,6 +1,7 @@
-pub mod Stepping
-pub mod Numbers
-pub mod Walking
-pub mod Ends
-pub mod Following
-pub mod Lengths
+mod Stepping
+mod Numbers
+mod Walking
+mod Ends
+mod Following
+mod Lengths
+pub mod Exported

@@ -9,22 +9,20 @@ use Rattle.master_script.specs.Progress.{Phase as ScriptPhase, Commissioning, Se
 use Rattle.master_script.specs.Script.{script, Call, Commission, Settle, Arm, Run, next_in, next_by}
 use Rattle.master_script.specs.Scripted.{AreScripted, none, more}
 use Rattle.master_script.specs.declared.step.Refusal.{Refusal}
-use Rattle.master_script.proofs.Counts.{after_counts, after_drifts, progress_sent}
-use Rattle.master_script.proofs.Folds.{progress_push}
-use Rattle.master_script.proofs.Limits.{sends_most}
-use Rattle.master_script.proofs.Wants.{phase_of as phase_of_call, wants, wanted_drift, wanted_other}
+use Rattle.master_script.proofs.Exported.{after_counts, after_drifts, progress_sent, progress_push, sends_most, phase_of as phase_of_call}
+use Rattle.master_script.proofs.Exported.{wants, wanted_drift, wanted_other}
 use Rattle.segment_shape.specs.declared.loss_row.Phase.{Phase}
 use Rattle.segment_shape.specs.declared.loss_row.Phase.TheVariants as frames
 use Rattle.frame_pass.specs.SegmentState.{SegmentState, segment_step, phase_of}
 use Rattle.frame_pass.specs.Invariants.{IsOnTime}
-use Rattle.frame_pass.proofs.Schedule.{step_sent, on_time_step, next_leaves}
+use Rattle.frame_pass.proofs.Exported.{step_sent, on_time_step, next_leaves}
 use Rattle.segment_file.specs.Segment.{SegmentValue, tree_rows}
 use Rattle.segment_file.specs.Legal.{IsLegal}
-use Rattle.segment_file.proofs.LegalLemmas.{legal_round_trip}
+use Rattle.segment_file.proofs.Exported.{legal_round_trip}
 use Rattle.segment_start.specs.Start.{started_segment}
 use Rattle.run_of_file.specs.MasterOfFile.{master_of}
 use Rattle.run_of_file.specs.RunOfFile.{frames_given}
-use Rattle.run_of_file.proofs.InRange.{as_many_kinds, some_rows, few_rows, lock_in_few, loss_run_few, frames_few}
+use Rattle.run_of_file.proofs.Exported.{as_many_kinds, some_rows, few_rows, lock_in_few, loss_run_few, frames_few}
 use Rattle.run_numbers.specs.OnTheWay.{StandsAfter}
 use Rattle.run_numbers.proofs.Stepping.{NumbersOn, step_numbers, drift_frame, commission_frame}
 

@@ -8,7 +8,7 @@ use Rattle.segment_shape.specs.Losses.{loss_at}
 use Rattle.segment_shape.specs.declared.loss_row.Phase.{Phase}
 use Rattle.segment_shape.specs.declared.loss_row.Phase.TheVariants.{Commission, Drift}
 use Rattle.frame_pass.specs.SegmentState.{SegmentState, segment_step, leaves_at, carried, numbered, leaving, number_of, phase_of, phase_by}
-use Rattle.frame_pass.proofs.Schedule.{is_below}
+use Rattle.frame_pass.proofs.Exported.{is_below}
 
 -- one frame more of a phase, and the same losses
 abbrev pub NumbersOn : Phase → SegmentState → SegmentState → Type 0

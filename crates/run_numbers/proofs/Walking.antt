@@ -7,8 +7,7 @@ use Rattle.ecat_link.specs.Serves.{Send, Sends}
 use Rattle.master_script.specs.Progress.{Progress, progress, after}
 use Rattle.master_script.specs.Script.{script, Call, Commission, Settle, Arm, Run}
 use Rattle.master_script.specs.Scripted.{AreScripted, IsLimited, more}
-use Rattle.master_script.proofs.Counts.{progress_sent}
-use Rattle.master_script.proofs.Folds.{progress_push}
+use Rattle.master_script.proofs.Exported.{progress_sent, progress_push}
 use Rattle.segment_shape.specs.Losses.{loss_at}
 use Rattle.segment_shape.specs.declared.loss_row.LossRow.{LossRow}
 use Rattle.segment_shape.specs.declared.loss_row.Phase.{Phase}

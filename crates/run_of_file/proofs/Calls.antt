@@ -3,12 +3,12 @@ use Rattle.std.proofs.Common.{◌≡◌, ℕ, ◌+◌, ◌<◌, List, [], ◌++�
 use Rattle.std.specs.Prelude.{Ok}
 use Rattle.ecat_link.specs.Exchanges.{Exchange}
 use Rattle.ecat_link.specs.Serves.{Serves, Sends, End}
-use Rattle.ecat_link.proofs.Driving.{run_is}
+use Rattle.ecat_link.proofs.Exported.{run_is}
 use Rattle.master_script.specs.Config.{ConfigValue}
 use Rattle.master_script.specs.Kept.{Kept, kept_after, StandsFor, Ends, given}
 use Rattle.master_script.specs.Script.{Call, Commission, Settle, Arm, Run, Answer, script}
 use Rattle.master_script.specs.Scripted.{AreScripted, IsLimited, none}
-use Rattle.master_script.proofs.Limits.{calls_scripted, sends_most}
+use Rattle.master_script.proofs.Exported.{calls_scripted, sends_most}
 use Rattle.frame_pass.specs.SegmentState.{SegmentState, segment_step}
 use Rattle.segment_file.specs.Segment.{SegmentValue}
 use Rattle.segment_file.specs.Legal.{IsLegal}

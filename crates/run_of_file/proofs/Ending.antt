@@ -2,17 +2,17 @@
 use Rattle.std.proofs.Common.{◌≡◌, ℕ, ◌+◌, ◌*◌, ◌<◌, ◌≤◌, List, [], ◌∷◌, length, Option, Some, None, refl, sym, subst, arith}
 use Rattle.std.specs.Prelude.{IsSome, Ok, Err, option_map}
 use Rattle.ecat_link.specs.Exchanges.{Exchange, Runs}
-use Rattle.ecat_link.proofs.Driving.{driven}
+use Rattle.ecat_link.proofs.Exported.{driven}
 use Rattle.master_script.specs.Script.{Call, Commission, Settle, Arm, Run, Answer, script}
 use Rattle.master_script.specs.Scripted.{AreScripted, IsLimited, none}
-use Rattle.master_script.proofs.Limits.{call_ends, calls_scripted}
+use Rattle.master_script.proofs.Exported.{call_ends, calls_scripted}
 use Rattle.frame_pass.specs.SegmentState.{SegmentState, segment_step}
 use Rattle.frame_pass.specs.Invariants.{IsSoundSegment}
-use Rattle.frame_pass.proofs.Sound.{timely_step}
+use Rattle.frame_pass.proofs.Exported.{timely_step}
 use Rattle.segment_file.specs.Segment.{SegmentValue}
 use Rattle.segment_file.specs.Legal.{IsLegal}
 use Rattle.segment_start.specs.Start.{started_segment}
-use Rattle.segment_start.proofs.Starts.{starts_timely}
+use Rattle.segment_start.proofs.Exported.{starts_timely}
 use Rattle.run_of_file.specs.MasterOfFile.{master_of}
 use Rattle.run_of_file.specs.RunOfFile.{RunEnd, turns, call_run, next_call, followed_by, frames_given, commissioned, settled, armed, ran, run_of}
 use Rattle.run_of_file.proofs.InRange.{as_many_kinds, some_rows, few_rows, lock_in_few, loss_run_few, frames_few}

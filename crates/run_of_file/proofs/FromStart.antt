@@ -3,10 +3,9 @@ use Rattle.std.proofs.Common.{◌≡◌, ℕ, ◌+◌, ◌≤◌, List, [], ◌�
 use Rattle.std.specs.Prelude.{Ok, Err}
 use Rattle.ecat_frame.specs.FrameGrammar.{FrameValue}
 use Rattle.ecat_link.specs.Exchanges.{Exchange, Runs}
-use Rattle.ecat_link.proofs.Driving.{driven}
-use Rattle.ecat_link.proofs.Serving.{runs_then}
+use Rattle.ecat_link.proofs.Exported.{driven, runs_then}
 use Rattle.master_script.specs.Script.{Call, Commission, Settle, Arm, Run, Answer, script}
-use Rattle.master_script.proofs.Limits.{sends_most}
+use Rattle.master_script.proofs.Exported.{sends_most}
 use Rattle.segment_shape.specs.Losses.{loss_at}
 use Rattle.segment_shape.specs.declared.loss_row.Phase.{Phase}
 use Rattle.segment_shape.specs.declared.loss_row.Phase.TheVariants.{Commission as CommissionFrame, Drift}

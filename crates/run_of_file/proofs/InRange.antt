@@ -4,7 +4,7 @@ use Rattle.std.proofs.lemmas.List.{length-map}
 use Rattle.cable_tree.specs.FrameOrder.{order}
 use Rattle.segment_file.specs.Segment.{SegmentValue, tree_rows}
 use Rattle.segment_file.specs.Legal.{IsLegal}
-use Rattle.segment_file.proofs.LegalLemmas.{order_many, few_to_lock, few_in_run}
+use Rattle.segment_file.proofs.Exported.{order_many, few_to_lock, few_in_run}
 use Rattle.run_of_file.specs.MasterOfFile.{master_of, kind_of, plan_of, row_of}
 use Rattle.run_of_file.specs.RunOfFile.{frames_given}
 

@@ -1,5 +1,6 @@
-pub mod InRange
-pub mod Ending
-pub mod Calls
-pub mod FromStart
-pub mod Refused
+mod InRange
+mod Ending
+mod Calls
+mod FromStart
+mod Refused
+pub mod Exported

@@ -14,7 +14,7 @@ use Rattle.master_script.specs.declared.step.Refusal.{Refusal}
 use Rattle.master_script.specs.declared.step.Refusal.TheVariants.{Lost}
 use Rattle.master_script.specs.declared.step.Step.{Step}
 use Rattle.master_script.specs.declared.step.Step.TheVariants as step
-use Rattle.master_script.proofs.Calls.{arm_sends}
+use Rattle.master_script.proofs.Exported.{arm_sends}
 use Rattle.segment_shape.specs.declared.loss_row.Phase.TheVariants as frames
 use Rattle.segment_file.specs.Segment.{SegmentValue}
 use Rattle.segment_file.specs.Legal.{IsLegal}
@@ -24,14 +24,10 @@ use Rattle.run_of_file.specs.RunOfFile.{RunEnd}
 use Rattle.run_schedule.specs.Answers.{answer_for}
 use Rattle.run_schedule.specs.Honest.{IsRefusedForLoss}
 use Rattle.script_tries.specs.Arming.{ArmsBy, StandsArming, StopsArming, Armed}
-use Rattle.script_tries.proofs.Arming.{after_arms}
-use Rattle.run_numbers.proofs.Ends.{ended, refused_at_end, never_spent, step_asked}
-use Rattle.run_numbers.proofs.Following.{IsLed, HasGone}
-use Rattle.run_numbers.proofs.Numbers.{in_step, in_phase}
+use Rattle.script_tries.proofs.Exported.{after_arms, begins}
+use Rattle.run_numbers.proofs.Exported.{ended, refused_at_end, never_spent, step_asked, IsLed, HasGone, in_step, in_phase, IsNext, walk}
 use Rattle.run_schedule.proofs.Settled.{BeginsArming}
 use Rattle.script_tries.specs.Reached.{Reached}
-use Rattle.script_tries.proofs.Tries.{begins}
-use Rattle.run_numbers.proofs.Walking.{IsNext, walk}
 
 arms_of : (lost : ℕ → _) (begin : ℕ) (all : List Step) (p : Progress) (o : Option Refusal) (s : Phase) → o ≡ None → s ≡ Arming → ArmsBy lost begin all p o s → Reached lost begin all p.todo (p.drifts + 1) p.tries
 arms_of lost begin all p (Some r) s x y h = absurd cc

@@ -4,7 +4,7 @@ use Rattle.std.proofs.lemmas.List.{append-nil}
 use Rattle.std.specs.Result.{result_err}
 use Rattle.ecat_link.specs.Exchanges.{Exchange, Runs}
 use Rattle.ecat_link.specs.Serves.{Send, Sends}
-use Rattle.ecat_link.proofs.Driving.{driven}
+use Rattle.ecat_link.proofs.Exported.{driven}
 use Rattle.dc_delay.specs.ShapeRows.{positions}
 use Rattle.master_script.specs.Config.{ConfigValue}
 use Rattle.master_script.specs.Progress.{Phase, Commissioning, Settling, Arming, Running, Progress, progress, beginning, first_steps, later_steps, after}
@@ -16,25 +16,22 @@ use Rattle.master_script.specs.declared.step.Refusal.{Refusal}
 use Rattle.master_script.specs.declared.step.Refusal.TheVariants.{Lost}
 use Rattle.master_script.specs.declared.step.Step.{Step}
 use Rattle.master_script.specs.declared.step.Step.TheVariants as step
-use Rattle.master_script.proofs.Calls.{commission_done}
-use Rattle.master_script.proofs.Limits.{calls_scripted}
+use Rattle.master_script.proofs.Exported.{commission_done, calls_scripted}
 use Rattle.segment_shape.specs.declared.loss_row.Phase.TheVariants as frames
 use Rattle.frame_pass.specs.SegmentState.{SegmentState, segment_step}
 use Rattle.segment_file.specs.Segment.{SegmentValue}
 use Rattle.segment_file.specs.Legal.{IsLegal}
 use Rattle.segment_start.specs.Start.{started_segment}
 use Rattle.lost_step.specs.LostStep.{loses, asked, measuring_positions, clock_positions, commission_steps, lost_in_commissioning}
-use Rattle.lost_step.proofs.Commission.{behind_identify}
+use Rattle.lost_step.proofs.Exported.{behind_identify}
 use Rattle.run_of_file.specs.MasterOfFile.{master_of}
 use Rattle.run_of_file.specs.RunOfFile.{RunEnd, turns, frames_given, commissioned}
-use Rattle.run_of_file.proofs.InRange.{as_many_kinds}
+use Rattle.run_of_file.proofs.Exported.{as_many_kinds}
 use Rattle.run_schedule.specs.Answers.{answer_for}
 use Rattle.run_schedule.specs.Honest.{TellsKinds, IsRefusedForLoss}
 use Rattle.script_tries.specs.Commissioning.{Asks, Done, Stops, StandsBy, Stands, steps_known}
-use Rattle.script_tries.proofs.Commissioning.{beginning_stands, after_stands}
-use Rattle.run_numbers.proofs.Ends.{ended, refused_at_end, never_spent, step_asked}
-use Rattle.run_numbers.proofs.Numbers.{in_phase, starts_in_step}
-use Rattle.run_numbers.proofs.Walking.{IsNext, walk}
+use Rattle.script_tries.proofs.Exported.{beginning_stands, after_stands}
+use Rattle.run_numbers.proofs.Exported.{ended, refused_at_end, never_spent, step_asked, in_phase, starts_in_step, IsNext, walk}
 
 nothing_sent : (cfg : ConfigValue) → progress cfg [] ≡ beginning cfg
 unfolding progress

@@ -7,7 +7,7 @@ use Rattle.master_script.specs.Script.{Settle, Arm, Run}
 use Rattle.master_script.specs.Slaves.{SlaveWords, clocks}
 use Rattle.master_script.specs.declared.step.MasterError.{MasterError}
 use Rattle.master_script.specs.declared.step.Step.{Step}
-use Rattle.master_script.proofs.Calls.{commission_done}
+use Rattle.master_script.proofs.Exported.{commission_done}
 use Rattle.segment_file.specs.Segment.{SegmentValue}
 use Rattle.segment_file.specs.Legal.{IsLegal}
 use Rattle.lost_step.specs.LostStep.{clock_positions, lost_in_commissioning, lost_in_arming, lost_step_of}
@@ -17,8 +17,7 @@ use Rattle.run_schedule.specs.Answers.{answer_for}
 use Rattle.run_schedule.specs.Honest.{HasHonestReplies}
 use Rattle.run_schedule.proofs.ArmingRun.{arm_answers, arm_done}
 use Rattle.run_schedule.proofs.Commissioned.{has_commissioned, commission_answers, known_clocks}
-use Rattle.run_numbers.proofs.Ends.{ended}
-use Rattle.run_numbers.proofs.Following.{IsLed, Followed, on, off, followed, led_on}
+use Rattle.run_numbers.proofs.Exported.{ended, IsLed, Followed, on, off, followed, led_on}
 use Rattle.run_schedule.proofs.Running.{run_answers}
 use Rattle.run_schedule.proofs.Settled.{BeginsArming, settle_answers, settle_done}
 

@@ -1,6 +1,7 @@
-pub mod Commissioned
-pub mod Settled
-pub mod ArmingRun
-pub mod Running
-pub mod Joined
-pub mod Shape
+mod Commissioned
+mod Settled
+mod ArmingRun
+mod Running
+mod Joined
+mod Shape
+pub mod Exported

@@ -21,12 +21,9 @@ use Rattle.lost_step.specs.LostStep.{loses}
 use Rattle.run_of_file.specs.MasterOfFile.{master_of}
 use Rattle.run_of_file.specs.RunOfFile.{RunEnd, frames_given}
 use Rattle.run_schedule.specs.Honest.{IsRefusedForLoss}
-use Rattle.run_numbers.proofs.Ends.{ended, refused_at_end, never_spent}
-use Rattle.run_numbers.proofs.Following.{IsLed, HasGone}
-use Rattle.run_numbers.proofs.Numbers.{in_step, in_phase}
+use Rattle.run_numbers.proofs.Exported.{ended, refused_at_end, never_spent, IsLed, HasGone, in_step, in_phase, IsNext, walk}
 use Rattle.script_tries.specs.IfLost.{IfLost}
-use Rattle.script_tries.proofs.Replies.{judged_other}
-use Rattle.run_numbers.proofs.Walking.{IsNext, walk}
+use Rattle.script_tries.proofs.Exported.{judged_other}
 
 -- no step was lost
 abbrev pub NoLoss : Option Refusal → Type 0

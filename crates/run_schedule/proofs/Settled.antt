@@ -11,23 +11,19 @@ use Rattle.master_script.specs.declared.step.MasterError.TheVariants.{Refused, S
 use Rattle.master_script.specs.declared.step.Refusal.{Refusal}
 use Rattle.master_script.specs.declared.step.Refusal.TheVariants.{Lost}
 use Rattle.master_script.specs.declared.step.Step.{Step}
-use Rattle.master_script.proofs.Calls.{settle_sends}
-use Rattle.master_script.proofs.Pins.{SoundBy, progress_sound}
+use Rattle.master_script.proofs.Exported.{settle_sends, SoundBy, progress_sound}
 use Rattle.segment_shape.specs.declared.loss_row.Phase.TheVariants as frames
-use Rattle.segment_shape.proofs.LossLemmas.{listed_by_loss}
+use Rattle.segment_shape.proofs.Exported.{listed_by_loss}
 use Rattle.segment_file.specs.Segment.{SegmentValue}
 use Rattle.segment_file.specs.Legal.{IsLegal}
-use Rattle.segment_file.proofs.LossLaws.{one_comes}
+use Rattle.segment_file.proofs.Exported.{one_comes}
 use Rattle.lost_step.specs.LostStep.{loses}
 use Rattle.run_of_file.specs.MasterOfFile.{master_of}
 use Rattle.run_of_file.specs.RunOfFile.{RunEnd}
 use Rattle.run_schedule.specs.Honest.{IsRefusedForLoss}
 use Rattle.script_tries.specs.Settling.{AllLost, Settles, SettlesBy, StandsSettling}
-use Rattle.script_tries.proofs.Settling.{after_settles}
-use Rattle.run_numbers.proofs.Ends.{ended, refused_at_end, never_spent}
-use Rattle.run_numbers.proofs.Following.{IsLed, HasGone}
-use Rattle.run_numbers.proofs.Numbers.{in_step, in_phase}
-use Rattle.run_numbers.proofs.Walking.{IsNext, walk}
+use Rattle.script_tries.proofs.Exported.{after_settles}
+use Rattle.run_numbers.proofs.Exported.{ended, refused_at_end, never_spent, IsLed, HasGone, in_step, in_phase, IsNext, walk}
 
 settles_of : (lost : ℕ → _) (cfg : ConfigValue) (ss : List SlaveWords) (p : Progress) (o : Option Refusal) → o ≡ None → SettlesBy lost cfg ss p o → Settles lost cfg ss p
 settles_of lost cfg ss p (Some r) x h = absurd cc

@@ -7,23 +7,19 @@ use Rattle.master_script.specs.Progress.{progress, arm_steps}
 use Rattle.master_script.specs.Script.{script, Settle, Arm, Run}
 use Rattle.master_script.specs.Slaves.{clocks}
 use Rattle.master_script.specs.declared.step.Step.TheVariants as step
-use Rattle.master_script.proofs.Calls.{settle_sends, run_sends}
-use Rattle.master_script.proofs.Counts.{progress_sent}
+use Rattle.master_script.proofs.Exported.{settle_sends, run_sends, progress_sent}
 use Rattle.segment_shape.specs.declared.loss_row.Phase.TheVariants as frames
 use Rattle.segment_file.specs.Segment.{SegmentValue}
 use Rattle.segment_file.specs.Legal.{IsLegal}
 use Rattle.lost_step.specs.LostStep.{loses, clock_positions, commission_steps, first_arming}
-use Rattle.lost_step.proofs.Asking.{asked_few}
+use Rattle.lost_step.proofs.Exported.{asked_few}
 use Rattle.run_of_file.specs.MasterOfFile.{master_of}
 use Rattle.run_of_file.specs.RunOfFile.{RunEnd, frames_given, commissioned, settled, armed, ran}
 use Rattle.run_schedule.specs.Honest.{HasHonestReplies}
 use Rattle.run_schedule.proofs.ArmingRun.{arm_done, master_first}
 use Rattle.run_schedule.proofs.Commissioned.{commission_came}
-use Rattle.run_numbers.proofs.Ends.{ended}
-use Rattle.run_numbers.proofs.Following.{HasGone, Followed, on, off, followed}
+use Rattle.run_numbers.proofs.Exported.{ended, HasGone, Followed, on, off, followed, IsBehind, stays_behind, in_step}
 use Rattle.run_schedule.proofs.Joined.{is_commissioned, is_settled, is_armed}
-use Rattle.run_numbers.proofs.Lengths.{IsBehind, stays_behind}
-use Rattle.run_numbers.proofs.Numbers.{in_step}
 
 some_same : {X : Type 0} {x y : X} → Some x ≡ Some y → x ≡ y
 some_same e = cc

@@ -13,7 +13,7 @@ use Rattle.master_script.specs.declared.step.Refusal.{Refusal}
 use Rattle.master_script.specs.declared.step.Refusal.TheVariants.{Lost}
 use Rattle.master_script.specs.declared.step.Step.{Step}
 use Rattle.master_script.specs.declared.step.Step.TheVariants.{Identify}
-use Rattle.master_script.proofs.Todo.{one_identify, identifies, later_none, learned_reference}
+use Rattle.master_script.proofs.Exported.{one_identify, identifies, later_none, learned_reference}
 use Rattle.script_tries.specs.Commissioning.{Asks, IsLate, IsOther, Stands, StandsBy, known_of, steps_known}
 use Rattle.script_tries.specs.Reached.{Reached}
 use Rattle.script_tries.proofs.Replies.{judged_other, judgement_other}

@@ -1,5 +1,6 @@
-pub mod Tries
-pub mod Replies
-pub mod Commissioning
-pub mod Settling
-pub mod Arming
+mod Tries
+mod Replies
+mod Commissioning
+mod Settling
+mod Arming
+pub mod Exported

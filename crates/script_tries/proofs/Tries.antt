@@ -5,7 +5,7 @@ use Rattle.std.proofs.lemmas.List.{append-nil}
 use Rattle.std.specs.Prelude.{Ok, Err}
 use Rattle.master_script.specs.declared.step.Step.{Step}
 use Rattle.lost_step.specs.LostStep.{behind_tries, asked}
-use Rattle.lost_step.proofs.Asking.{none_comes, behind_came}
+use Rattle.lost_step.proofs.Exported.{none_comes, behind_came}
 use Rattle.script_tries.specs.Reached.{Reached}
 
 -- before the first frame

@@ -1,6 +1,7 @@
-pub mod Rows
-pub mod Configured
-pub mod Begun
-pub mod Wires
-pub mod Started
-pub mod Phases
+mod Rows
+mod Configured
+mod Begun
+mod Wires
+mod Started
+mod Phases
+pub mod Exported

@@ -4,7 +4,7 @@ use Rattle.cable_tree.specs.FrameOrder.{order}
 use Rattle.cable_tree.specs.Row.{Row}
 use Rattle.segment_file.specs.Segment.{SegmentValue, tree_rows}
 use Rattle.segment_file.specs.Legal.{IsLegal}
-use Rattle.segment_file.proofs.LegalLemmas.{order_many, row_within}
+use Rattle.segment_file.proofs.Exported.{order_many, row_within}
 
 -- a row in a list of the frame order is one of the segment
 pub row_low : (s : SegmentValue) (rows : List Row) (list : List ℕ) (i : ℕ) → IsLegal s → rows ≡ tree_rows s.rows → list ≡ order rows → i < length list

@@ -6,10 +6,10 @@ use Rattle.master_script.specs.Kept.{Kept, kept_after}
 use Rattle.master_script.specs.Stages.{HasDrifts}
 use Rattle.master_script.specs.declared.step.Stage.{Stage}
 use Rattle.master_script.specs.declared.step.Stage.TheVariants.{Ended}
-use Rattle.master_script.proofs.Stages.{drifts_told, start_told}
+use Rattle.master_script.proofs.Exported.{drifts_told, start_told}
 use Rattle.run_of_file.specs.MasterOfFile.{master_of}
 use Rattle.run_of_file.specs.RunOfFile.{master_after}
-use Rattle.run_of_file.proofs.InRange.{as_many_kinds, some_rows}
+use Rattle.run_of_file.proofs.Exported.{as_many_kinds, some_rows}
 use Rattle.segment_file.specs.Legal.{IsLegal}
 use Rattle.segment_file.specs.Segment.{SegmentValue}
 

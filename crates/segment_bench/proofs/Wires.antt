@@ -3,13 +3,13 @@ use Rattle.std.proofs.Common.{◌≡◌, ℕ, map, Option, Some, None, refl, sym
 use Rattle.std.specs.Prelude.{Ok, Err, option_map}
 use Rattle.dc_bench.specs.BenchState.{BenchState}
 use Rattle.edge_numbers.specs.Numbered.{AreNumberedSlaves}
-use Rattle.edge_numbers.proofs.AtSegments.{numbers_begin, numbers_step, numbers_finished}
+use Rattle.edge_numbers.proofs.Exported.{numbers_begin, numbers_step, numbers_finished}
 use Rattle.frame_pass.specs.SegmentState.{SegmentState, finished}
 use Rattle.frame_pass.specs.SlaveState.{fixed_part}
-use Rattle.frame_pass.proofs.Fixed.{same_step, same_finished}
+use Rattle.frame_pass.proofs.Exported.{same_step, same_finished}
 use Rattle.master_script.specs.Script.{Answer}
 use Rattle.run_of_file.specs.RunOfFile.{RunEnd, ran, run_of, rounded_off, end_of_run}
-use Rattle.run_of_file.proofs.FromStart.{kept_by_runs, ran_from}
+use Rattle.run_of_file.proofs.Exported.{kept_by_runs, ran_from}
 use Rattle.segment_file.specs.Legal.{IsLegal}
 use Rattle.segment_file.specs.Segment.{SegmentValue}
 use Rattle.segment_start.specs.Start.{started_segment}

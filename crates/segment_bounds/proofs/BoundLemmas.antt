@@ -4,18 +4,15 @@ use Rattle.std.proofs.Common.{arith, refl, sym, ◌∙◌}
 use Rattle.std.proofs.lemmas.Bool.Decides.{nat_tests}
 use Rattle.std.proofs.lemmas.List.{length-map}
 use Rattle.cable_tree.specs.PathSums.{arrive, round_trip}
-use Rattle.cable_tree.proofs.Members.{inside}
+use Rattle.cable_tree.proofs.Exported.{inside}
 use Rattle.dc_bounds.specs.LockNumbers.{period_fs}
 use Rattle.dc_bounds.specs.TickBounds.{tick_gap}
 use Rattle.dc_bounds.specs.CopyBound.{copy_bound}
-use Rattle.dc_bounds.proofs.FirstClock.{reference_first}
-use Rattle.dc_bounds.proofs.Growth.{quarter}
-use Rattle.dc_bounds.proofs.WeightSize.{weight_few}
-use Rattle.dc_bounds.proofs.Weightless.{boundless, weightless}
+use Rattle.dc_bounds.proofs.Exported.{reference_first, quarter, weight_few, boundless, weightless}
 use Rattle.segment_file.specs.Faults.{Fault, no_reference, first_of, fault_if, clock_fault}
 use Rattle.segment_file.specs.Segment.{RowValue, SegmentValue, tree_row, tree_rows, measures_at, clock_at, reference_row}
 use Rattle.segment_file.specs.Legal.{IsLegal}
-use Rattle.segment_file.proofs.LegalLemmas.{faultless, legal_round_trip}
+use Rattle.segment_file.proofs.Exported.{faultless, legal_round_trip}
 use Rattle.segment_bounds.specs.Bounds.{reference_of, weight_at, delay_bound_at, delay_at, copy_bound_at}
 
 rows_many : (s : SegmentValue) → length (tree_rows s.rows) ≡ length s.rows

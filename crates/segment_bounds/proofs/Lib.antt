@@ -1,3 +1,4 @@
-pub mod BoundLemmas
-pub mod SignalLemmas
-pub mod Greatest
+mod BoundLemmas
+mod SignalLemmas
+mod Greatest
+pub mod Exported

@@ -7,7 +7,7 @@ use Rattle.std.proofs.lemmas.List.{get_or-map, length-append, length-map, map-ap
 use Rattle.std.proofs.lemmas.List.Elements.{All-get_or, All-head, All-tail}
 use Rattle.segment_file.specs.Segment.{RowValue, SegmentValue, is_clock, signals}
 use Rattle.segment_file.specs.Legal.{IsClock, IsLegal}
-use Rattle.segment_file.proofs.CountLemmas.{count_by-cons}
+use Rattle.segment_file.proofs.Exported.{count_by-cons}
 use Rattle.segment_file.specs.Seen.{row_seen}
 use Rattle.segment_file.specs.declared.slave_row.SlaveRow.{SlaveRow}
 use Rattle.segment_bounds.specs.Bounded.{bounded, bounded_window}

@@ -11,7 +11,7 @@ use Rattle.segment_shape.specs.Values.{is_id}
 use Rattle.segment_file.specs.Faults.{clock_fault, is_off}
 use Rattle.segment_file.specs.Legal.{IsClock, IsLegal}
 use Rattle.segment_file.specs.Segment.{RowValue, counts_of, tree_rows}
-use Rattle.segment_file.proofs.CountLemmas.{counted}
+use Rattle.segment_file.proofs.Exported.{counted}
 use Rattle.segment_draw.specs.Draws.{Draws, AreLow, draws_from, seeded}
 use Rattle.segment_draw.specs.Generated.{drawn_head, drawn_segment, generated, name, rows_from}
 use Rattle.segment_draw.proofs.ClockLemmas.{clock_ok, clock_on}

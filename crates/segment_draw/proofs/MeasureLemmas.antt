@@ -11,9 +11,7 @@ use Rattle.cable_tree.specs.Row.{IsRow, above}
 use Rattle.cable_tree.specs.FrameOrder.{child, root, subtree, order}
 use Rattle.cable_tree.specs.FrameOrder as frame
 use Rattle.cable_tree.specs.Segment.{IsSegment}
-use Rattle.cable_tree.proofs.Children.{child_hangs, root_of}
-use Rattle.cable_tree.proofs.Levels.{subtree_is}
-use Rattle.cable_tree.proofs.Rising.{order_once, order_within}
+use Rattle.cable_tree.proofs.Exported.{child_hangs, root_of, subtree_is, order_once, order_within}
 use Rattle.dc_bounds.specs.Measurable.{branches, is_measured_within, is_measurable, unmeasurable}
 use Rattle.segment_shape.specs.Slaves.{measures, has_clock}
 use Rattle.segment_file.specs.Segment.{RowValue, tree_row, tree_rows, clock_at, measures_at, is_clock, is_measuring, reference_row}

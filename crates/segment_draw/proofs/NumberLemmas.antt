@@ -7,7 +7,7 @@ use Rattle.cable_tree.specs.Row.{Row}
 use Rattle.cable_tree.specs.PathSums.{round_trip}
 use Rattle.dc_bounds.specs.LockNumbers.{period_fs, reach_fs, silence_fs, sure_fall}
 use Rattle.dc_bounds.specs.TickBounds.{jump}
-use Rattle.dc_bounds.proofs.Growth.{jump_rises}
+use Rattle.dc_bounds.proofs.Exported.{jump_rises}
 use Rattle.segment_file.specs.Counted.{IsCounted}
 use Rattle.segment_file.specs.Faults.{time_fault, frame_fault, ahead_ns, lock_in, frames_of_run, most_frames}
 use Rattle.segment_file.specs.Runs.{is_run, first_run, greatest_number}

@@ -9,7 +9,7 @@ use Rattle.cable_tree.specs.declared.port.Above.{Above}
 use Rattle.cable_tree.specs.FrameOrder.{is_at}
 use Rattle.cable_tree.specs.Row.{Row, no_row, above}
 use Rattle.cable_tree.specs.Segment.{IsRoot, LeadsToRoot, IsTree}
-use Rattle.cable_tree.proofs.Children.{at_same}
+use Rattle.cable_tree.proofs.Exported.{at_same}
 use Rattle.segment_file.specs.Segment.{RowValue, tree_row, tree_rows}
 use Rattle.segment_draw.specs.Generated.{is_taken, above_of}
 use Rattle.segment_draw.proofs.MadeLemmas.{AreMade}

@@ -6,9 +6,7 @@ use Rattle.cable_tree.specs.declared.port.Port.TheVariants.{P1, P2, P3}
 use Rattle.cable_tree.specs.Row.{Row, no_row, row_at, tp, tf, cable}
 use Rattle.cable_tree.specs.FrameOrder.{behind, child, root, subtree}
 use Rattle.cable_tree.specs.PathSums.{detour_to, span, round_trip}
-use Rattle.cable_tree.proofs.Children.{child_hangs, root_of}
-use Rattle.cable_tree.proofs.Levels.{tree_induction, subtree_is, span_is}
-use Rattle.cable_tree.proofs.Rising.{subtree_few}
+use Rattle.cable_tree.proofs.Exported.{child_hangs, root_of, tree_induction, subtree_is, span_is, subtree_few}
 use Rattle.segment_file.specs.Segment.{RowValue, tree_row, tree_rows}
 use Rattle.segment_draw.specs.Generated.{row_of}
 use Rattle.segment_draw.proofs.TreeLemmas.{AreDrawn, no_value, many, are_tree}

@@ -7,7 +7,7 @@ use Rattle.cable_tree.specs.Refusals as tree
 use Rattle.cable_tree.specs.Row.{Row}
 use Rattle.cable_tree.specs.declared.error.TreeError.{TreeError}
 use Rattle.cable_tree.specs.declared.error.TreeError.TheVariants as trees
-use Rattle.cable_tree.proofs.Refused.{refusal_same, tree_unrefused}
+use Rattle.cable_tree.proofs.Exported.{refusal_same, tree_unrefused}
 use Rattle.segment_shape.specs.ShapeOf.{ShapeValue, Refusal, bad_shape, id_twice, file_of}
 use Rattle.segment_shape.specs.Told.{IsText}
 use Rattle.segment_file.specs.Segment.{SegmentValue, tree_rows}

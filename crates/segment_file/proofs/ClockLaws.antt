@@ -5,7 +5,7 @@ use Rattle.std.proofs.Common.{arith, refl}
 use Rattle.std.proofs.lemmas.Bool.Decides.{nat_tests}
 use Rattle.std.proofs.lemmas.List.Elements.{All-nil, All-cons, All-head, All-tail}
 use Rattle.osc_clock.specs.Ticks.{Rate}
-use Rattle.osc_clock.proofs.TickLaws.{gaps_within}
+use Rattle.osc_clock.proofs.Exported.{gaps_within}
 use Rattle.dc_bounds.specs.TickBounds.{tick_fs, tolerance}
 use Rattle.segment_file.specs.Segment.{RowValue, SegmentValue, is_measuring, oscillator}
 use Rattle.segment_file.specs.Faults.{clock_fault, is_off, is_within}

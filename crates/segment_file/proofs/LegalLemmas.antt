@@ -11,9 +11,8 @@ use Rattle.dc_bounds.specs.LockNumbers.{period_fs}
 use Rattle.dc_bounds.specs.Measurable.{unmeasurable}
 use Rattle.dc_bounds.specs.RunNumbers.{lead_ns, start_ns}
 use Rattle.dc_bounds.specs.TickFacts.{AreTicksOf}
-use Rattle.dc_bounds.proofs.RunLength.{start_fits}
-use Rattle.cable_tree.proofs.Rising.{order_within}
-use Rattle.cable_tree.proofs.Members.{order_whole}
+use Rattle.dc_bounds.proofs.Exported.{start_fits}
+use Rattle.cable_tree.proofs.Exported.{order_within, order_whole}
 use Rattle.segment_shape.specs.Head.{HeadValue}
 use Rattle.segment_shape.specs.declared.loss_row.LossRow.{LossRow}
 use Rattle.std.proofs.lemmas.List.{length-map}

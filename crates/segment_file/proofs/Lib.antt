@@ -1,9 +1,10 @@
-pub mod CountLemmas
-pub mod RunLemmas
-pub mod RowLemmas
-pub mod LegalLemmas
-pub mod LossLaws
-pub mod WrittenLemmas
-pub mod ClockLaws
-pub mod FaultLemmas
-pub mod AnswerLemmas
+mod CountLemmas
+mod RunLemmas
+mod RowLemmas
+mod LegalLemmas
+mod LossLaws
+mod WrittenLemmas
+mod ClockLaws
+mod FaultLemmas
+mod AnswerLemmas
+pub mod Exported

@@ -11,7 +11,7 @@ use Rattle.segment_shape.specs.Head.{HeadValue}
 use Rattle.segment_shape.specs.declared.loss_row.Phase.{Phase}
 use Rattle.segment_shape.specs.declared.loss_row.Phase.TheVariants.{Drift}
 use Rattle.segment_shape.specs.declared.loss_row.LossRow.{LossRow}
-use Rattle.segment_shape.proofs.LossLemmas.{lost_nowhere, unlisted_outside}
+use Rattle.segment_shape.proofs.Exported.{lost_nowhere, unlisted_outside}
 use Rattle.segment_file.specs.Runs.{is_lost, is_run, first_run, greatest_number}
 use Rattle.segment_file.specs.Segment.{SegmentValue, CountsValue, counts_of}
 use Rattle.segment_file.specs.Faults.{frame_fault, loss_run}

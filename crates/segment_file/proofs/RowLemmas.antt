@@ -9,7 +9,7 @@ use Rattle.segment_shape.specs.Slaves.{SlaveValue}
 use Rattle.segment_shape.specs.Values.{is_id}
 use Rattle.serde_json.specs.Data.{Data}
 use Rattle.segment_shape.specs.ShapeOf.{ShapeValue, file_of}
-use Rattle.segment_shape.proofs.RangeLemmas.{file_ranges}
+use Rattle.segment_shape.proofs.Exported.{file_ranges}
 use Rattle.segment_shape.specs.Twice.{first_again}
 use Rattle.segment_shape.specs.Ranges.{IsSlave, IsLoss}
 use Rattle.cable_tree.specs.Segment.{IsTree}

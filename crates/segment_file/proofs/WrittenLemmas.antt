@@ -15,8 +15,7 @@ use Rattle.cable_tree.specs.declared.port.Port.TheVariants.{P1, P2, P3}
 use Rattle.segment_shape.specs.Values.{is_id}
 use Rattle.segment_shape.specs.Twice.{first_again}
 use Rattle.segment_shape.specs.Ranges.{IsParent, IsSlave, IsLoss, IsFile}
-use Rattle.segment_shape.proofs.WrittenLemmas.{file_read}
-use Rattle.segment_shape.proofs.FileTextLemmas.{file_text_read}
+use Rattle.segment_shape.proofs.Exported.{file_read, file_text_read}
 use Rattle.segment_file.specs.Segment.{RowValue, SegmentValue, tree_row, tree_rows}
 use Rattle.segment_file.specs.Faults.{id_at, fault_of}
 use Rattle.segment_file.specs.Placed.{port_numbered, row_with, above_in, placed_row, placed_rows, placed}

@@ -1,13 +1,14 @@
 mod EntryLemmas
 mod FileLemmas
-pub mod FileTextLemmas
+mod FileTextLemmas
 mod ItemLemmas
 mod LineFeedLemmas
-pub mod LossLemmas
+mod LossLemmas
 mod PathLemmas
-pub mod RangeLemmas
+mod RangeLemmas
 mod RateLemmas
 mod ReadingLemmas
 mod RowLemmas
 mod TextLemmas
-pub mod WrittenLemmas
+mod WrittenLemmas
+pub mod Exported

@@ -1,4 +1,5 @@
-pub mod Registers
-pub mod Starts
-pub mod Times
-pub mod Visits
+mod Registers
+mod Starts
+mod Times
+mod Visits
+pub mod Exported

@@ -2,8 +2,8 @@
 use Rattle.std.proofs.Common.{◌≡◌, ℕ, length, arith}
 use Rattle.esc_regs.specs.declared.clock_kind.ClockKind.{ClockKind}
 use Rattle.esc_regs.specs.StartOfRegisters.{registers_at_start}
-use Rattle.esc_regs.proofs.Starting.{start_whole}
-use Rattle.frame_pass.proofs.Sizes.{size_holding}
+use Rattle.esc_regs.proofs.Exported.{start_whole}
+use Rattle.frame_pass.proofs.Exported.{size_holding}
 use Rattle.segment_start.specs.Start.{registers_of}
 
 pub start_size : (k : ClockKind) (status : ℕ) → length (registers_of k status).bytes ≡ 4096

@@ -16,13 +16,12 @@ use Rattle.cable_tree.specs.declared.port.Port.{Port}
 use Rattle.cable_tree.specs.declared.port.Port.TheVariants.{P1, P2, P3}
 use Rattle.segment_file.specs.Segment.{RowValue, SegmentValue, oscillator, tree_rows}
 use Rattle.segment_file.specs.Legal.{IsLegal}
-use Rattle.segment_file.proofs.LegalLemmas.{order_many, row_within}
+use Rattle.segment_file.proofs.Exported.{order_many, row_within}
 use Rattle.frame_pass.specs.SlaveState.{Timing, Slave, Visits}
 use Rattle.frame_pass.specs.Invariants.{IsSound, IsSoundSegment, IsWithin, StandsBy}
-use Rattle.frame_pass.proofs.Sizes.{size_holding}
+use Rattle.frame_pass.proofs.Exported.{size_holding}
 use Rattle.segment_start.specs.Start.{registers_of, slave_of, slave_by, timing_by, timing_of, visits_of, no_row, started_segment}
-use Rattle.cable_tree.proofs.Inside.{port_time_inside}
-use Rattle.cable_tree.proofs.Members.{inside}
+use Rattle.cable_tree.proofs.Exported.{port_time_inside, inside}
 use Rattle.segment_start.proofs.Registers.{start_size}
 
 back_within : (rows : List Row) → IsTree rows → All IsRow rows → (r : ℕ) → r < length rows → (p : Port) (o : Option ℕ) → port_time rows r p ≡ o

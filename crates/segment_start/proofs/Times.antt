@@ -11,14 +11,12 @@ use Rattle.dc_bounds.specs.TickFacts.{IsWithin}
 use Rattle.segment_shape.specs.Slaves.{greatest_start, measures}
 use Rattle.segment_file.specs.Segment.{RowValue, SegmentValue, oscillator, tree_rows, is_measuring}
 use Rattle.segment_file.specs.Legal.{IsLegal, IsClock, KeepsTime}
-use Rattle.segment_file.proofs.LegalLemmas.{legal_round_trip}
-use Rattle.segment_file.proofs.ClockLaws.{legal_clocks}
+use Rattle.segment_file.proofs.Exported.{legal_round_trip, legal_clocks}
 use Rattle.frame_pass.specs.SlaveState.{Timing, Slave, width}
 use Rattle.frame_pass.specs.SegmentState.{leaves_at}
 use Rattle.frame_pass.specs.Invariants.{IsUnsent, after_frames}
 use Rattle.frame_pass.specs.ClockHistory.{HasHistory}
-use Rattle.frame_pass.proofs.Schedule.{sending_times}
-use Rattle.frame_pass.proofs.History.{of_start}
+use Rattle.frame_pass.proofs.Exported.{sending_times, of_start}
 use Rattle.segment_start.specs.Start.{registers_of, slave_of, timing_by, timing_of, no_row, started_segment}
 
 pub starts_unsent : (s : SegmentValue) → IsUnsent (started_segment s)

@@ -10,11 +10,11 @@ use Rattle.cable_tree.specs.Hops.{lap, lap_before, or_before, previous}
 use Rattle.cable_tree.specs.PathSums.{arrive, back_from, port_time}
 use Rattle.cable_tree.specs.declared.port.Port.{Port}
 use Rattle.cable_tree.specs.declared.port.Port.TheVariants.{P1, P2, P3}
-use Rattle.cable_tree.proofs.Laps.{laps_rise, port_time_of}
+use Rattle.cable_tree.proofs.Exported.{laps_rise, port_time_of}
 use Rattle.tree_status.specs.Status.{status_of}
 use Rattle.segment_file.specs.Segment.{SegmentValue, tree_rows}
 use Rattle.segment_file.specs.Legal.{IsLegal}
-use Rattle.segment_file.proofs.LegalLemmas.{row_within}
+use Rattle.segment_file.proofs.Exported.{row_within}
 use Rattle.frame_pass.specs.SlaveState.{Slave, Visits}
 use Rattle.visit_laws.specs.ReceiveTimes.{AreInTurn, until}
 use Rattle.segment_start.specs.Start.{registers_of, slave_of, started_segment, timing_by, visits_of, no_row}

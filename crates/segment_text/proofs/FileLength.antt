@@ -20,7 +20,7 @@ use Rattle.segment_shape.specs.declared.loss_row.Phase.TheVariants.{Commission, 
 use Rattle.segment_file.specs.Legal.{IsLegal}
 use Rattle.segment_file.specs.Segment.{SegmentValue}
 use Rattle.segment_file.specs.Written.{segment_text, written}
-use Rattle.segment_file.proofs.WrittenLemmas.{written_file}
+use Rattle.segment_file.proofs.Exported.{written_file}
 use Rattle.segment_text.proofs.LengthLemmas.{number_short, number_at_short, number_if_short, id_text_short, id_at_short, entry_short, entry_short_if, entry_short_of, object_short, array_short}
 
 kind_is_id : (k : ClockKind) → is_id (kind_name k) ≡ true

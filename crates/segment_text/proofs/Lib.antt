@@ -1,6 +1,7 @@
-pub mod PlainLemmas
-pub mod TextLemmas
-pub mod RowLemmas
-pub mod MigratedLemmas
-pub mod LengthLemmas
-pub mod FileLength
+mod PlainLemmas
+mod TextLemmas
+mod RowLemmas
+mod MigratedLemmas
+mod LengthLemmas
+mod FileLength
+pub mod Exported

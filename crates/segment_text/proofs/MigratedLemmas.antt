@@ -8,8 +8,7 @@ use Rattle.segment_file.specs.Legal.{IsLegal}
 use Rattle.segment_file.specs.Segment.{RowValue, SegmentValue, CountsValue}
 use Rattle.segment_file.specs.Told.{IsSegmentText}
 use Rattle.segment_file.specs.Written.{segment_text}
-use Rattle.segment_file.proofs.AnswerLemmas.{one_segment}
-use Rattle.segment_file.proofs.WrittenLemmas.{written_text}
+use Rattle.segment_file.proofs.Exported.{one_segment, written_text}
 use Rattle.segment_text.specs.Migrated.{migrated}
 
 pub newest : (s : SegmentValue) → s.head.version ≡ 2 → migrated s ≡ s

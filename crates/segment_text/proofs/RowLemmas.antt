@@ -11,7 +11,7 @@ use Rattle.segment_file.specs.Segment.{RowValue, SegmentValue}
 use Rattle.segment_file.specs.Seen.{row_seen}
 use Rattle.segment_file.specs.Legal.{IsLegal}
 use Rattle.segment_file.specs.Written.{written_row}
-use Rattle.segment_file.proofs.WrittenLemmas.{parents_within}
+use Rattle.segment_file.proofs.Exported.{parents_within}
 
 pub at_row : (P : RowValue → Type 0) (rows : List SlaveRow) (seen : List RowValue) (k : ℕ) (item : SlaveRow) → map row_seen rows ≡ seen → k < length rows → item ≡ get_or rows k item → All P seen → P (row_seen item)
 at_row P rows seen k item same low is all =

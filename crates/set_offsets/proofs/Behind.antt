@@ -4,26 +4,21 @@ use Rattle.std.specs.Prelude.{Ok, Err, option_map, slice_get}
 use Rattle.std.proofs.lemmas.List.{length-map}
 use Rattle.std.proofs.lemmas.Option.{slice_get-map}
 use Rattle.drift_writes.specs.Untouched.{HoldAlike}
-use Rattle.drift_writes.proofs.Frames.{delay_untouched, offset_untouched}
-use Rattle.drift_writes.proofs.Runs.{armed_holds, ran_holds, settled_holds}
-use Rattle.drift_writes.proofs.Slaves.{plain_held}
+use Rattle.drift_writes.proofs.Exported.{delay_untouched, offset_untouched, armed_holds, ran_holds, settled_holds, plain_held}
 use Rattle.frame_pass.specs.Advancing.{advanced_to}
 use Rattle.frame_pass.specs.Invariants.{IsSoundSegment}
 use Rattle.frame_pass.specs.PlainRegisters.{IsPlain}
 use Rattle.frame_pass.specs.SegmentState.{SegmentState, finished}
 use Rattle.frame_pass.specs.SlaveState.{FixedPart, Slave, fixed_part, holds}
-use Rattle.frame_pass.proofs.AtPositions.{finished_at}
-use Rattle.frame_pass.proofs.Fixed.{same_finished, same_step}
-use Rattle.frame_pass.proofs.Plain.{plain_time}
-use Rattle.latch_times.proofs.Stepping.{sound_at}
+use Rattle.frame_pass.proofs.Exported.{finished_at, same_finished, same_step, plain_time}
+use Rattle.latch_times.proofs.Exported.{sound_at}
 use Rattle.master_script.specs.Progress.{progress}
 use Rattle.master_script.specs.Script.{Answer}
 use Rattle.master_script.specs.Words.{Words, delay_at, offset_at}
-use Rattle.named_slaves.proofs.Frames.{had_before, low_where}
+use Rattle.named_slaves.proofs.Exported.{had_before, low_where}
 use Rattle.run_of_file.specs.MasterOfFile.{master_of}
 use Rattle.run_of_file.specs.RunOfFile.{RunEnd, armed, commissioned, end_of_run, ran, rounded_off, run_of, settled}
-use Rattle.run_of_file.proofs.Ending.{ran_on}
-use Rattle.run_of_file.proofs.FromStart.{IsFromStart, armed_from, commissioned_from, kept_by_runs, ran_from, settled_from}
+use Rattle.run_of_file.proofs.Exported.{ran_on, IsFromStart, armed_from, commissioned_from, kept_by_runs, ran_from, settled_from}
 use Rattle.segment_file.specs.Legal.{IsLegal}
 use Rattle.segment_file.specs.Segment.{SegmentValue}
 use Rattle.segment_start.specs.Start.{started_segment}

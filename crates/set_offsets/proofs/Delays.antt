@@ -7,14 +7,14 @@ use Rattle.dc_bounds.specs.TickFacts.{IsNear}
 use Rattle.master_script.specs.Progress.{progress}
 use Rattle.master_script.specs.Words.{Words, delay_at, delays_of}
 use Rattle.segment_bounds.specs.Bounds.{delay_at as true_delay_at, delay_bound_at}
-use Rattle.segment_bounds.proofs.BoundLemmas.{delay_short, small_copy_bound}
+use Rattle.segment_bounds.proofs.Exported.{delay_short, small_copy_bound}
 use Rattle.segment_file.specs.Legal.{IsLegal}
 use Rattle.segment_file.specs.Segment.{SegmentValue}
-use Rattle.segment_file.proofs.LegalLemmas.{row_within}
+use Rattle.segment_file.proofs.Exported.{row_within}
 use Rattle.honest_runs.specs.FileSlaves.{row_at}
 use Rattle.run_of_file.specs.MasterOfFile.{master_of}
 use Rattle.run_of_file.specs.RunOfFile.{RunEnd, commissioned}
-use Rattle.delay_law.proofs.Near.{commissioned_near, kept_delays}
+use Rattle.delay_law.proofs.Exported.{commissioned_near, kept_delays}
 
 -- near a true delay of less than a period of at most 10 ms, within a bound of at most a quarter of it
 few : (d delay bound differ drift frame_ns : ℕ) → IsNear (1000000 * d) delay bound → delay < 1000000 * frame_ns → 4 * (1000000 * differ + bound + 2 * drift) ≤ 1000000 * frame_ns → frame_ns ≤ 10000000

@@ -11,10 +11,9 @@ use Rattle.frame_pass.specs.Invariants.{IsSound, IsSoundSegment}
 use Rattle.frame_pass.specs.Reach.{reach_of}
 use Rattle.frame_pass.specs.SegmentState.{SegmentState, leaves_at, segment_step}
 use Rattle.frame_pass.specs.SlaveState.{Slave, delay, offset}
-use Rattle.frame_pass.proofs.AtPositions.{step_reached}
-use Rattle.frame_pass.proofs.Sound.{timely_leaving}
+use Rattle.frame_pass.proofs.Exported.{step_reached, timely_leaving}
 use Rattle.visit_laws.specs.Aside.{AreAside, HaveSize, never_writes}
-use Rattle.visit_laws.proofs.Asides.{aside_behind, left_by}
+use Rattle.visit_laws.proofs.Exported.{aside_behind, left_by}
 use Rattle.master_script.specs.Config.{ConfigValue}
 use Rattle.master_script.specs.Frames.{set_datagrams, width as bytes_by}
 use Rattle.master_script.specs.Steps.{datagrams_of}
@@ -23,10 +22,9 @@ use Rattle.master_script.specs.declared.step.Step.{Step}
 use Rattle.master_script.specs.declared.step.Step.TheVariants.{Count, Identify, Rate, Latch, Times, Set, Settle, Drift, Arm}
 use Rattle.named_slaves.specs.Mindful.{AreMindful}
 use Rattle.named_slaves.specs.Standing.{Stands, own_address}
-use Rattle.named_slaves.proofs.Frames.{Had, had_before, low_where, same_many, stands_at}
+use Rattle.named_slaves.proofs.Exported.{Had, had_before, low_where, same_many, stands_at}
 use Rattle.honest_replies.specs.Told.{AreInOrder}
-use Rattle.latch_times.proofs.Far.{AreFar, far_behind, far_left}
-use Rattle.latch_times.proofs.Stepping.{each_after, sizes_of, sound_at}
+use Rattle.latch_times.proofs.Exported.{AreFar, far_behind, far_left, each_after, sizes_of, sound_at}
 use Rattle.set_offsets.proofs.Registers.{HoldsOn, on_same, passed_on}
 use Rattle.set_offsets.proofs.Writing.{delay_set, offset_set}
 

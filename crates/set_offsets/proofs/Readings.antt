@@ -28,14 +28,11 @@ use Rattle.segment_file.specs.Legal.{IsLegal}
 use Rattle.segment_file.specs.Segment.{SegmentValue, clock_at, measures_at}
 use Rattle.segment_shape.specs.Slaves.{has_clock, measures}
 use Rattle.honest_runs.specs.FileSlaves.{kind_at, row_at, status_at}
-use Rattle.honest_runs.proofs.Judged.{judged_ok}
-use Rattle.honest_runs.proofs.Positions.{row_has}
+use Rattle.honest_runs.proofs.Exported.{judged_ok, row_has}
 use Rattle.run_of_file.specs.MasterOfFile.{master_of}
 use Rattle.run_of_file.specs.RunOfFile.{RunEnd, commissioned}
 use Rattle.latch_times.specs.Resting.{row_there, shown_at}
-use Rattle.latch_times.proofs.Ended.{late, told}
-use Rattle.latch_times.proofs.Runs.{first_clock}
-use Rattle.latch_times.proofs.Widths.{wide_told}
+use Rattle.latch_times.proofs.Exported.{late, told, first_clock, wide_told}
 use Rattle.set_offsets.specs.SinceLatch.{latch_arrival}
 
 -- a clock measures

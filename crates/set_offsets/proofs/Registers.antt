@@ -10,17 +10,15 @@ use Rattle.esc_regs.specs.RegisterTable.{is_wide}
 use Rattle.esc_regs.specs.StartOfRegisters.{registers_at_start}
 use Rattle.esc_regs.specs.declared.clock_kind.ClockKind.{ClockKind}
 use Rattle.esc_regs.specs.declared.clock_kind.ClockKind.TheVariants as kind
-use Rattle.esc_regs.proofs.Numbers.{apart}
-use Rattle.esc_regs.proofs.Starting.{start_numbers, start_whole}
+use Rattle.esc_regs.proofs.Exported.{apart, start_numbers, start_whole}
 use Rattle.frame_pass.specs.FramePass.{at_arrival, slave_passed}
 use Rattle.frame_pass.specs.Invariants.{IsSound}
 use Rattle.frame_pass.specs.PlainRegisters.{AreLeft, IsPlain}
 use Rattle.frame_pass.specs.SlaveState.{Slave, holds, width}
-use Rattle.frame_pass.proofs.Fixed.{fixed_passed}
-use Rattle.frame_pass.proofs.Plain.{left_passed}
+use Rattle.frame_pass.proofs.Exported.{fixed_passed, left_passed}
 use Rattle.master_script.specs.Frames.{width as bytes_by}
 use Rattle.segment_start.specs.Start.{registers_of}
-use Rattle.latch_times.proofs.Widths.{number_split}
+use Rattle.latch_times.proofs.Exported.{number_split}
 use Rattle.set_offsets.specs.HeldOffsets.{HoldsSet}
 
 -- a slave sets neither itself

@@ -8,13 +8,13 @@ use Rattle.std.proofs.lemmas.Nat.{pow_pos}
 use Rattle.ecat_frame.specs.FrameGrammar.{FrameValue}
 use Rattle.ecat_link.specs.Exchanges.{Exchange, Runs}
 use Rattle.ecat_link.specs.Serves.{Send, Sends}
-use Rattle.ecat_link.proofs.Driving.{driven}
+use Rattle.ecat_link.proofs.Exported.{driven}
 use Rattle.esc_regs.specs.RegisterTable.{is_wide}
 use Rattle.segment_file.specs.Legal.{IsLegal}
 use Rattle.segment_file.specs.Segment.{SegmentValue, clock_at}
 use Rattle.segment_shape.specs.Slaves.{has_clock}
 use Rattle.segment_start.specs.Start.{slave_of, started_segment}
-use Rattle.segment_start.proofs.Starts.{as_many, stands_at}
+use Rattle.segment_start.proofs.Exported.{as_many, stands_at}
 use Rattle.frame_pass.specs.Reach.{reach_of}
 use Rattle.frame_pass.specs.SegmentState.{SegmentState, segment_step}
 use Rattle.frame_pass.specs.SlaveState.{Slave}
@@ -27,21 +27,17 @@ use Rattle.master_script.specs.Steps.{datagrams_of}
 use Rattle.master_script.specs.Words.{Words, delay_at, offset_at, wide_at}
 use Rattle.master_script.specs.declared.step.Step.{Step}
 use Rattle.master_script.specs.declared.step.Step.TheVariants.{Count, Identify, Rate, Latch as LatchStep, Times, Set}
-use Rattle.master_script.proofs.Folds.{progress_push}
-use Rattle.named_slaves.proofs.Frames.{had_before, low_where, same_many}
+use Rattle.master_script.proofs.Exported.{progress_push}
+use Rattle.named_slaves.proofs.Exported.{had_before, low_where, same_many}
 use Rattle.honest_replies.specs.Told.{IsMeant}
-use Rattle.honest_replies.proofs.Mindful.{mindful_step}
+use Rattle.honest_replies.proofs.Exported.{mindful_step}
 use Rattle.honest_runs.specs.FileSlaves.{kind_at, row_at, status_at}
-use Rattle.honest_runs.proofs.Progressing.{IsLate}
-use Rattle.honest_runs.proofs.Positions.{row_has}
-use Rattle.honest_runs.proofs.Returning.{came_back}
+use Rattle.honest_runs.proofs.Exported.{IsLate, row_has, came_back}
 use Rattle.run_of_file.specs.MasterOfFile.{master_of}
 use Rattle.run_of_file.specs.RunOfFile.{RunEnd, commissioned, turns}
-use Rattle.latch_times.proofs.Ended.{at_end, late as late_at_end, latched}
-use Rattle.latch_times.proofs.Far.{AreFar}
-use Rattle.latch_times.proofs.Measuring.{IsFirst, IsJudged, IsLatched, IsMeasuring, IsOpen, IsUnjudged, first_asked, rate_asked, reading_steps}
-use Rattle.latch_times.proofs.Widths.{wide_told}
-use Rattle.latch_times.proofs.Runs.{IsAsked, IsOnWay, after_is, asks, first_clock, late_of, phase, sends_step, starts, unrefused, walk}
+use Rattle.latch_times.proofs.Exported.{at_end, late as late_at_end, latched, AreFar, IsFirst, IsJudged, IsLatched, IsMeasuring, IsOpen}
+use Rattle.latch_times.proofs.Exported.{IsUnjudged, first_asked, rate_asked, reading_steps, wide_told, IsAsked, IsOnWay, after_is, asks}
+use Rattle.latch_times.proofs.Exported.{first_clock, late_of, phase, sends_step, starts, unrefused, walk}
 use Rattle.set_offsets.specs.HeldOffsets.{AreSet, HoldsSet}
 use Rattle.set_offsets.proofs.Delays.{delay_few}
 use Rattle.set_offsets.proofs.Frames.{AreHeldOn, IsBefore, before_held, far_before, others_held, own_delay, own_offset}

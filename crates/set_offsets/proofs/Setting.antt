@@ -9,7 +9,7 @@ use Rattle.esc_regs.specs.RegisterFile.{Registers}
 use Rattle.esc_regs.specs.declared.clock_kind.ClockKind.{ClockKind}
 use Rattle.segment_shape.specs.Slaves.{has_clock}
 use Rattle.frame_pass.specs.SlaveState.{Slave}
-use Rattle.named_slaves.proofs.Frames.{had_before, low_where}
+use Rattle.named_slaves.proofs.Exported.{had_before, low_where}
 use Rattle.master_script.specs.Config.{ConfigValue}
 use Rattle.master_script.specs.Judged.{judged}
 use Rattle.master_script.specs.Progress.{Commissioning, Progress, Settling, answered, asked_by, noted}
@@ -20,9 +20,8 @@ use Rattle.master_script.specs.declared.step.Refusal.{Refusal}
 use Rattle.master_script.specs.declared.step.Step.{Step}
 use Rattle.master_script.specs.declared.step.Step.TheVariants.{Latch as LatchStep, Set, Times}
 use Rattle.honest_replies.specs.Told.{words_of}
-use Rattle.honest_replies.proofs.ByKind.{clock_word}
-use Rattle.honest_replies.proofs.Numbers.{flagged, words_many}
-use Rattle.latch_times.proofs.Measuring.{IsOpen, reading_steps, turned_keeps}
+use Rattle.honest_replies.proofs.Exported.{clock_word, flagged, words_many}
+use Rattle.latch_times.proofs.Exported.{IsOpen, reading_steps, turned_keeps}
 use Rattle.set_offsets.specs.HeldOffsets.{HoldsSet}
 use Rattle.set_offsets.proofs.Frames.{AreHeldOn}
 use Rattle.set_offsets.proofs.Registers.{HoldsOn, set_on}

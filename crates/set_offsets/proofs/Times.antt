@@ -8,28 +8,24 @@ use Rattle.esc_regs.specs.declared.clock_kind.ClockKind.TheVariants as kind
 use Rattle.frame_pass.specs.Advancing.{measuring_at}
 use Rattle.frame_pass.specs.LiveRegisters.{system_time}
 use Rattle.frame_pass.specs.SlaveState.{Slave, Timing, offset, width}
-use Rattle.frame_pass.proofs.History.{of_start}
+use Rattle.frame_pass.proofs.Exported.{of_start}
 use Rattle.osc_clock.specs.Ticks.{IsRunning, ticks}
-use Rattle.osc_clock.proofs.TickLaws.{ticks_rise}
+use Rattle.osc_clock.proofs.Exported.{ticks_rise}
 use Rattle.local_clock.specs.Reading.{advanced}
 use Rattle.wrap_time.specs.WordLess.{word_less}
-use Rattle.wrap_time.proofs.Cuts.{difference_of_cut, offset_sum}
+use Rattle.wrap_time.proofs.Exported.{difference_of_cut, offset_sum}
 use Rattle.visit_laws.specs.Copies.{copy_at}
-use Rattle.visit_laws.proofs.Copying.{time_then}
+use Rattle.visit_laws.proofs.Exported.{time_then}
 use Rattle.master_script.specs.Progress.{progress}
 use Rattle.master_script.specs.Words.{Words, delay_at, offset_at}
 use Rattle.segment_file.specs.Legal.{IsLegal}
 use Rattle.segment_file.specs.Segment.{RowValue, SegmentValue, clock_at, oscillator}
-use Rattle.named_slaves.proofs.Frames.{low_where}
+use Rattle.named_slaves.proofs.Exported.{low_where}
 use Rattle.honest_runs.specs.FileSlaves.{row_at}
 use Rattle.run_of_file.specs.MasterOfFile.{master_of}
 use Rattle.run_of_file.specs.RunOfFile.{RunEnd, commissioned}
 use Rattle.latch_times.specs.Resting.{Rests, row_there, shown_at, time_at}
-use Rattle.latch_times.proofs.Ended.{way_of}
-use Rattle.latch_times.proofs.Places.{IsFixed, keeps_there, kind_there, measures_there}
-use Rattle.latch_times.proofs.Resting.{counts_on}
-use Rattle.latch_times.proofs.Runs.{IsOnWay}
-use Rattle.latch_times.proofs.Stepping.{sound_at}
+use Rattle.latch_times.proofs.Exported.{way_of, IsFixed, keeps_there, kind_there, measures_there, counts_on, IsOnWay, sound_at}
 use Rattle.set_offsets.specs.HeldOffsets.{HoldsSet}
 use Rattle.set_offsets.specs.SinceLatch.{counted_ns, latch_arrival}
 use Rattle.set_offsets.proofs.Delays.{delay_few}

@@ -11,7 +11,7 @@ use Rattle.esc_regs.specs.RegisterTable.{held, is_wide}
 use Rattle.esc_regs.specs.RegisterWrite.{written}
 use Rattle.esc_regs.specs.declared.clock_kind.ClockKind.{ClockKind}
 use Rattle.esc_regs.specs.declared.clock_kind.ClockKind.TheVariants as kind
-use Rattle.esc_regs.proofs.Storing.{untouched}
+use Rattle.esc_regs.proofs.Exported.{untouched}
 use Rattle.segment_shape.specs.Slaves.{has_clock}
 use Rattle.frame_pass.specs.DatagramAtSlave.{datagram_after, doing, slave_after}
 use Rattle.frame_pass.specs.DatagramTable.{writes}
@@ -19,20 +19,16 @@ use Rattle.frame_pass.specs.FramePass.{at_arrival, datagrams_after, datagrams_be
 use Rattle.frame_pass.specs.Invariants.{IsSound}
 use Rattle.frame_pass.specs.PlainRegisters.{IsPlain}
 use Rattle.frame_pass.specs.SlaveState.{Slave, delay, holds, offset, station, width}
-use Rattle.frame_pass.proofs.Fixed.{fixed_passed}
-use Rattle.frame_pass.proofs.Plain.{plain_datagram, plain_passed}
-use Rattle.frame_pass.proofs.Sizes.{HasSize}
+use Rattle.frame_pass.proofs.Exported.{fixed_passed, plain_datagram, plain_passed, HasSize}
 use Rattle.visit_laws.specs.Counters.{slave_before}
 use Rattle.visit_laws.specs.Stations.{IsAlone, slave_found}
-use Rattle.visit_laws.proofs.Stations.{found, station_written}
-use Rattle.visit_laws.proofs.Storage.{stores_number}
+use Rattle.visit_laws.proofs.Exported.{found, station_written, stores_number}
 use Rattle.master_script.specs.Frames.{asks, set_datagrams, station as address_of, width as bytes_by}
 use Rattle.named_slaves.specs.Mindful.{AreMindful}
 use Rattle.named_slaves.specs.Standing.{Stands, own_address}
-use Rattle.named_slaves.proofs.Answering.{alone}
-use Rattle.named_slaves.proofs.Frames.{found_standing, low_where}
+use Rattle.named_slaves.proofs.Exported.{alone, found_standing, low_where}
 use Rattle.honest_replies.specs.Told.{AreInOrder}
-use Rattle.honest_replies.proofs.ByKind.{IsFor, delay_for_clocks, offset_for_clocks}
+use Rattle.honest_replies.proofs.Exported.{IsFor, delay_for_clocks, offset_for_clocks}
 use Rattle.set_offsets.proofs.Registers.{delay_plain, number_brought, offset_plain, word_brought, word_is}
 
 -- two datagrams stay two

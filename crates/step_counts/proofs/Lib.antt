@@ -1,3 +1,4 @@
-pub mod Places
-pub mod Positions
-pub mod Numbers
+mod Places
+mod Positions
+mod Numbers
+pub mod Exported

@@ -4,7 +4,7 @@ use Rattle.std.specs.Prelude.{Result, Ok, Err, if◌then◌else◌}
 use Rattle.std.specs.List.{range_with_len}
 use Rattle.std.proofs.lemmas.List.Sums.{sum_by-cons}
 use Rattle.lost_step.specs.LostStep.{asked, asked_on, behind_tries}
-use Rattle.lost_step.proofs.Asking.{asked_few}
+use Rattle.lost_step.proofs.Exported.{asked_few}
 use Rattle.master_script.specs.declared.step.Step.{Step}
 use Rattle.step_counts.specs.Numbers.{IsLostAt, lost_numbers}
 

@@ -6,8 +6,7 @@ use Rattle.std.proofs.lemmas.List.FromFn.{length-range_with_len}
 use Rattle.std.proofs.lemmas.List.Sums.{length-filter}
 use Rattle.std.proofs.lemmas.Map.Keys.{IsDistinct-from_apart}
 use Rattle.cable_tree.specs.FrameOrder.{order}
-use Rattle.cable_tree.proofs.Members.{every_row}
-use Rattle.cable_tree.proofs.Rising.{order_once}
+use Rattle.cable_tree.proofs.Exported.{every_row, order_once}
 use Rattle.dc_bounds.specs.Weight.{flag}
 use Rattle.dc_delay.specs.ShapeRows.{positions}
 use Rattle.lost_step.specs.LostStep.{arm_steps, clock_positions, commission_steps, measuring_positions, row_at}
@@ -15,7 +14,7 @@ use Rattle.master_script.specs.declared.step.Step.{Step}
 use Rattle.master_script.specs.declared.step.Step.TheVariants.{Identify, Rate, Latch, Times, Set, Arm}
 use Rattle.segment_file.specs.Legal.{IsLegal}
 use Rattle.segment_file.specs.Segment.{RowValue, SegmentValue, clocks, is_clock, is_measuring, measuring, tree_row, tree_rows}
-use Rattle.segment_file.proofs.LegalLemmas.{order_many, row_within}
+use Rattle.segment_file.proofs.Exported.{order_many, row_within}
 use Rattle.step_counts.proofs.Places.{apart_test, as_many_pass, places_pass}
 
 as_many_rows : (test : RowValue → Bool) (rows : List RowValue) → length (filter (flag (map test rows)) (positions (length rows))) ≡ count_by test rows

@@ -3,7 +3,7 @@ use Rattle.std.proofs.Common.{◌≡◌, ℕ, suc, zero, ◌+◌, ◌-◌, ◌<�
 use Rattle.std.specs.Prelude.{nat_le}
 use Rattle.std.proofs.lemmas.Bool.Decides.{nat_tests}
 use Rattle.osc_clock.specs.Ticks.{Oscillator, IsRunning, instant, ticks}
-use Rattle.osc_clock.proofs.TickLaws.{ticks_rise}
+use Rattle.osc_clock.proofs.Exported.{ticks_rise}
 use Rattle.local_clock.specs.Reading.{Clock, ticks_to}
 use Rattle.local_clock.specs.FirstReaching.{tick_after}
 use Rattle.sync_units.specs.declared.edge.Edge.{Edge}

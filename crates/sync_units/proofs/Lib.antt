@@ -1,7 +1,8 @@
-pub mod Ticks
-pub mod Kept
-pub mod NextEdges
-pub mod Exact
-pub mod Calls
-pub mod KeptOfSignal
-pub mod Spare
+mod Ticks
+mod Kept
+mod NextEdges
+mod Exact
+mod Calls
+mod KeptOfSignal
+mod Spare
+pub mod Exported

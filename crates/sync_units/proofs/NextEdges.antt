@@ -5,10 +5,10 @@ use Rattle.std.proofs.Math.Path.{fun_ext}
 use Rattle.std.proofs.lemmas.Bool.{cases_lt}
 use Rattle.std.proofs.lemmas.Bool.Decides.{nat_tests}
 use Rattle.osc_clock.specs.Ticks.{IsRunning, ticks}
-use Rattle.osc_clock.proofs.TickLaws.{not_after, instants_rise, ticks_rise}
+use Rattle.osc_clock.proofs.Exported.{not_after, instants_rise, ticks_rise}
 use Rattle.local_clock.specs.Reading.{Clock, ticks_to, advanced}
 use Rattle.local_clock.specs.FirstReaching.{is_behind, tick_after, within_time}
-use Rattle.local_clock.proofs.ManyTicks.{ticks_to_tick, ticks_on, advanced_reading, advanced_tick}
+use Rattle.local_clock.proofs.Exported.{ticks_to_tick, ticks_on, advanced_reading, advanced_tick}
 use Rattle.sync_units.specs.ClockCopy.{copy_after}
 use Rattle.sync_units.specs.declared.armed_unit.NextEdges.{NextEdges}
 use Rattle.sync_units.specs.declared.edge.Signal.{Signal}

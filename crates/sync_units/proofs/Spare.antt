@@ -9,8 +9,7 @@ use Rattle.wrap_time.specs.WordDifference.{word_difference}
 use Rattle.local_clock.specs.StepRule.{elapsed}
 use Rattle.local_clock.specs.Reading.{Clock, steering_of, ticks_to, advanced}
 use Rattle.local_clock.specs.FirstReaching.{is_behind, is_negative, tick_after}
-use Rattle.local_clock.proofs.Elapsed.{elapsed_most}
-use Rattle.local_clock.proofs.Reaching.{ahead, ahead_later, behind_by, still_behind}
+use Rattle.local_clock.proofs.Exported.{elapsed_most, ahead, ahead_later, behind_by, still_behind}
 use Rattle.sync_units.specs.ClockCopy.{copy_of, copy_after}
 use Rattle.sync_units.specs.Interval.{unit_at, edges_to}
 use Rattle.sync_units.specs.declared.edge.Signal.{Signal}

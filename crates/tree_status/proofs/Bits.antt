@@ -8,7 +8,7 @@ use Rattle.cable_tree.specs.declared.port.Port.TheVariants.{P1, P2, P3}
 use Rattle.cable_tree.specs.Row.{Row, IsRow}
 use Rattle.cable_tree.specs.Segment.{IsTree}
 use Rattle.cable_tree.specs.Positions.{position_of, renumbered}
-use Rattle.cable_tree.proofs.Renumbered.{children}
+use Rattle.cable_tree.proofs.Exported.{children}
 use Rattle.cable_tree.specs.FrameOrder.{child}
 use Rattle.cable_tree.specs.PathSums.{back_from}
 use Rattle.dc_topology.specs.DlStatus.{bit, is_connected, is_closed, is_formed}

@@ -1,2 +1,3 @@
-pub mod Bits
-pub mod Hanging
+mod Bits
+mod Hanging
+pub mod Exported

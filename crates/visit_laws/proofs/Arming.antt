@@ -15,9 +15,7 @@ use Rattle.frame_pass.specs.DatagramTable.{writes}
 use Rattle.frame_pass.specs.DatagramAtSlave.{doing, slave_after}
 use Rattle.frame_pass.specs.FramePass.{slave_behind, slave_passed, are_latching, at_arrival}
 use Rattle.frame_pass.specs.UnitHistory.{is_activating, are_activating, HasRun}
-use Rattle.frame_pass.proofs.AtPositions.{not_latching}
-use Rattle.frame_pass.proofs.Fixed.{fixed_passed}
-use Rattle.frame_pass.proofs.Sizes.{HasSize}
+use Rattle.frame_pass.proofs.Exported.{not_latching, fixed_passed, HasSize}
 use Rattle.visit_laws.specs.Arming.{armed_from, Activates}
 use Rattle.visit_laws.proofs.Effects.{size_advanced}
 use Rattle.visit_laws.proofs.Latching.{Stands, stands_behind}

@@ -10,7 +10,7 @@ use Rattle.esc_regs.specs.declared.clock_kind.ClockKind.{ClockKind}
 use Rattle.esc_regs.specs.RegisterBytes.{AreApart}
 use Rattle.esc_regs.specs.RegisterAccess.{is_refused, touches}
 use Rattle.esc_regs.specs.RegisterWrite.{written, told}
-use Rattle.esc_regs.proofs.Storing.{untouched}
+use Rattle.esc_regs.proofs.Exported.{untouched}
 use Rattle.frame_pass.specs.SlaveState.{Slave, holds, station}
 use Rattle.frame_pass.specs.LiveRegisters.{read_of}
 use Rattle.frame_pass.specs.DatagramTable.{doing_by, reads, writes, merges, raises_adp}
@@ -18,8 +18,7 @@ use Rattle.frame_pass.specs.DatagramAtSlave.{is_refused_by, doing, merged, data_
 use Rattle.frame_pass.specs.FramePass.{at_arrival, datagrams_after, datagrams_passed, datagrams_behind, are_latching}
 use Rattle.frame_pass.specs.UnitHistory.{is_activating, are_activating}
 use Rattle.frame_pass.specs.PlainRegisters.{IsPlain, AreLeft}
-use Rattle.frame_pass.proofs.Plain.{plain_datagram}
-use Rattle.frame_pass.proofs.Sizes.{HasSize}
+use Rattle.frame_pass.proofs.Exported.{plain_datagram, HasSize}
 use Rattle.visit_laws.specs.Counters.{slave_before}
 use Rattle.visit_laws.specs.Aside.{never_writes, IsAside, AreAside, HaveSize}
 use Rattle.visit_laws.proofs.Counting.{other_station}

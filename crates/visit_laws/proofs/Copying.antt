@@ -5,11 +5,10 @@ use Rattle.std.proofs.lemmas.Bool.{cases_lt}
 use Rattle.std.proofs.lemmas.List.{append-nil}
 use Rattle.ecat_frame.specs.FrameGrammar.{DatagramValue}
 use Rattle.osc_clock.specs.Ticks.{Oscillator, IsRunning, ticks, instant}
-use Rattle.osc_clock.proofs.TickLaws.{reached, not_after, ticks_rise}
+use Rattle.osc_clock.proofs.Exported.{reached, not_after, ticks_rise}
 use Rattle.local_clock.specs.FirstReaching.{tick_after}
 use Rattle.local_clock.specs.Reading.{Clock, Happening, advanced, clock_at, reading_at, reading_after, ticks_to, AreInOrder}
-use Rattle.local_clock.proofs.History.{in_turn, stands, not_yet, is_until, is_after}
-use Rattle.local_clock.proofs.ManyTicks.{ticks_to_tick}
+use Rattle.local_clock.proofs.Exported.{in_turn, stands, not_yet, is_until, is_after, ticks_to_tick}
 use Rattle.sync_units.specs.ClockCopy.{copy_after}
 use Rattle.sync_units.specs.Calls.{Call, AreInTurn, end_of, ticks_of_calls, copy_in}
 use Rattle.esc_regs.specs.declared.answers.Written.{Written}
@@ -24,10 +23,8 @@ use Rattle.frame_pass.specs.FramePass.{slave_behind, port_latched, port_taken, p
 use Rattle.frame_pass.specs.ClockHistory.{IsOf, HasHistory, received_of, reset_of, events_told, events_wrote, events_by, events_in, events_passed}
 use Rattle.frame_pass.specs.UnitHistory.{calls_until, calls_to, calls_of_port, calls_of_ports, calls_passed}
 use Rattle.frame_pass.specs.PlainRegisters.{IsPlain, AreLeft}
-use Rattle.frame_pass.proofs.Fixed.{fixed_advanced, fixed_passed}
-use Rattle.frame_pass.proofs.Plain.{plain_datagram}
-use Rattle.frame_pass.proofs.Sizes.{HasSize, size_holding}
-use Rattle.esc_regs.proofs.Storing.{untouched}
+use Rattle.frame_pass.proofs.Exported.{fixed_advanced, fixed_passed, plain_datagram, HasSize, size_holding}
+use Rattle.esc_regs.proofs.Exported.{untouched}
 use Rattle.visit_laws.specs.Copies.{copy_at, time_at, HasCopies}
 use Rattle.visit_laws.proofs.Effects.{left_holding, left_advanced}
 use Rattle.visit_laws.proofs.Latching.{Stands, stands_after, stands_behind, size_after}

@@ -12,15 +12,12 @@ use Rattle.esc_regs.specs.RegisterBytes.{number_at, with_number, AreApart}
 use Rattle.esc_regs.specs.RegisterFile.{Registers}
 use Rattle.esc_regs.specs.RegisterTable.{held}
 use Rattle.esc_regs.specs.ShownRegisters.{shown, showing}
-use Rattle.esc_regs.proofs.Numbers.{same_numbers, apart}
-use Rattle.esc_regs.proofs.Showing.{range_byte, range_length, showing_length}
-use Rattle.esc_regs.proofs.Storing.{not_past}
-use Rattle.esc_regs.proofs.TableFacts.{held_all, held_few}
+use Rattle.esc_regs.proofs.Exported.{same_numbers, apart, range_byte, range_length, showing_length, not_past, held_all, held_few}
 use Rattle.frame_pass.specs.SlaveState.{Timing, Slave, holds}
 use Rattle.frame_pass.specs.LiveRegisters.{live, read_of, system_time}
 use Rattle.frame_pass.specs.DatagramTable.{reads, merges}
 use Rattle.frame_pass.specs.DatagramAtSlave.{is_refused_by, doing, payload_after, datagram_after}
-use Rattle.frame_pass.proofs.Sizes.{HasSize, size_shown}
+use Rattle.frame_pass.proofs.Exported.{HasSize, size_shown}
 
 -- who reads is not refused
 reads_whole : (s : Slave) (d : DatagramValue) → reads (doing s d) ≡ true → is_refused_by s d ≡ false

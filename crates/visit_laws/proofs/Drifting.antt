@@ -12,7 +12,7 @@ use Rattle.esc_regs.specs.RegisterBytes.{number_at, AreApart}
 use Rattle.esc_regs.specs.RegisterAccess.{is_refused, covers}
 use Rattle.esc_regs.specs.RegisterFile.{Registers}
 use Rattle.esc_regs.specs.RegisterWrite.{written, told}
-use Rattle.esc_regs.proofs.Storing.{untouched, written_kind}
+use Rattle.esc_regs.proofs.Exported.{untouched, written_kind}
 use Rattle.frame_pass.specs.SlaveState.{Timing, Measuring, Slave, holds, station}
 use Rattle.frame_pass.specs.LiveRegisters.{system_time}
 use Rattle.frame_pass.specs.WriteEffects.{latched, difference}
@@ -22,8 +22,7 @@ use Rattle.frame_pass.specs.DatagramAtSlave.{is_refused_by, doing, slave_after, 
 use Rattle.frame_pass.specs.FramePass.{datagrams_after, datagrams_passed, datagrams_behind, at_arrival}
 use Rattle.frame_pass.specs.ClockHistory.{events_on, events_wrote, events_by, events_in, events_passed}
 use Rattle.frame_pass.specs.PlainRegisters.{AreLeft}
-use Rattle.frame_pass.proofs.Fixed.{fixed_advanced}
-use Rattle.frame_pass.proofs.Sizes.{HasSize}
+use Rattle.frame_pass.proofs.Exported.{fixed_advanced, HasSize}
 use Rattle.visit_laws.specs.Drift.{IsDrift, time_in, first_behind, Brings, IsOther, AreOthersThan}
 use Rattle.visit_laws.proofs.Effects.{size_advanced, left_advanced}
 use Rattle.visit_laws.proofs.Ports.{there}

@@ -4,13 +4,12 @@ use Rattle.esc_regs.specs.RegisterBytes.{AreApart}
 use Rattle.esc_regs.specs.RegisterFile.{Registers}
 use Rattle.esc_regs.specs.RegisterWrite.{written, told}
 use Rattle.esc_regs.specs.declared.answers.Written.{Written}
-use Rattle.esc_regs.proofs.Numbers.{apart, number_again}
-use Rattle.esc_regs.proofs.Storing.{unwritable}
+use Rattle.esc_regs.proofs.Exported.{apart, number_again, unwritable}
 use Rattle.latch_unit.specs.Stamp.{stamp_by}
 use Rattle.frame_pass.specs.SlaveState.{Timing, Measuring, Slave, holds, holding, width_of, offset, on_measuring_of}
 use Rattle.frame_pass.specs.Advancing.{advanced_to, measuring_at, ticked_to, stamped}
 use Rattle.frame_pass.specs.WriteEffects.{latched, compared, reset_by, activated, affected, wrote, difference, difference_shown, arms}
-use Rattle.frame_pass.proofs.Sizes.{HasSize, size_written, size_holding, size_stamped}
+use Rattle.frame_pass.proofs.Exported.{HasSize, size_written, size_holding, size_stamped}
 use Rattle.visit_laws.specs.ReceiveTimes.{IsReceiveTime}
 use Rattle.visit_laws.proofs.Table.{ports_unwritable, unit_unwritable}
 

@@ -7,8 +7,7 @@ use Rattle.frame_pass.specs.WriteEffects.{latched, affected, wrote}
 use Rattle.frame_pass.specs.DatagramTable.{writes}
 use Rattle.frame_pass.specs.DatagramAtSlave.{doing, slave_after, is_latching}
 use Rattle.frame_pass.specs.FramePass.{slave_behind, slave_passed, are_latching, at_arrival}
-use Rattle.frame_pass.proofs.AtPositions.{not_latching}
-use Rattle.frame_pass.proofs.Sizes.{HasSize, size_written, size_holding}
+use Rattle.frame_pass.proofs.Exported.{not_latching, HasSize, size_written, size_holding}
 use Rattle.visit_laws.specs.ReceiveTimes.{IsReceiveTime}
 use Rattle.visit_laws.proofs.Effects.{Shows, shows_affected, left_holding, set_holding, times_wrote, times_unlatched, times_left, size_advanced, size_wrote, unwritten}
 

@@ -1,13 +1,14 @@
-pub mod Table
-pub mod Effects
-pub mod Latching
-pub mod Ports
-pub mod DataRead
-pub mod Drifting
-pub mod Counting
-pub mod Copying
-pub mod Arming
-pub mod Stations
-pub mod Resting
-pub mod Asides
-pub mod Storage
+mod Table
+mod Effects
+mod Latching
+mod Ports
+mod DataRead
+mod Drifting
+mod Counting
+mod Copying
+mod Arming
+mod Stations
+mod Resting
+mod Asides
+mod Storage
+pub mod Exported

@@ -5,7 +5,7 @@ use Rattle.std.proofs.lemmas.Bool.Decides.{nat_tests}
 use Rattle.ecat_frame.specs.FrameGrammar.{DatagramValue}
 use Rattle.osc_clock.specs.Ticks.{IsRunning}
 use Rattle.local_clock.specs.Reading.{Clock, Happening, clock_at, reading_at}
-use Rattle.local_clock.proofs.History.{fits}
+use Rattle.local_clock.proofs.Exported.{fits}
 use Rattle.esc_regs.specs.RegisterBytes.{AreApart}
 use Rattle.esc_regs.specs.RegisterTable.{is_wide}
 use Rattle.esc_regs.specs.declared.clock_kind.ClockKind.{ClockKind}
@@ -13,9 +13,7 @@ use Rattle.frame_pass.specs.SlaveState.{Timing, Measuring, Slave, width, holds, 
 use Rattle.frame_pass.specs.Advancing.{advanced_to, measuring_at, ticked_to}
 use Rattle.frame_pass.specs.FramePass.{slave_behind, port_latched, port_taken, ports_taken, comes_by, at_arrival, when_latching, are_latching, slave_passed}
 use Rattle.frame_pass.specs.ClockHistory.{IsOf, HasHistory, events_passed}
-use Rattle.frame_pass.proofs.Fixed.{fixed_passed}
-use Rattle.frame_pass.proofs.History.{of_advanced, of_passed}
-use Rattle.frame_pass.proofs.Sizes.{HasSize, size_holding}
+use Rattle.frame_pass.proofs.Exported.{fixed_passed, of_advanced, of_passed, HasSize, size_holding}
 use Rattle.visit_laws.specs.ReceiveTimes.{until, AreInTurn, IsBefore, port_time, AreReceiveTimes}
 use Rattle.visit_laws.proofs.Effects.{left_holding, set_holding, left_advanced, size_advanced}
 use Rattle.visit_laws.proofs.Latching.{Stands, stands_behind, HasLatched, has_behind, IsBack, back_behind}

@@ -5,8 +5,7 @@ use Rattle.std.proofs.lemmas.List.{append-nil}
 use Rattle.ecat_frame.specs.FrameGrammar.{DatagramValue}
 use Rattle.osc_clock.specs.Ticks.{IsRunning}
 use Rattle.local_clock.specs.Reading.{Clock, Happening, Event, AreUntil, received, reset, after_event, advanced, clock_at, reading_at, ticks_to}
-use Rattle.local_clock.proofs.History.{in_turn}
-use Rattle.local_clock.proofs.Steady.{rests}
+use Rattle.local_clock.proofs.Exported.{in_turn, rests}
 use Rattle.esc_regs.specs.RegisterBytes.{AreApart}
 use Rattle.esc_regs.specs.declared.answers.Written.{Written}
 use Rattle.esc_regs.specs.declared.clock_kind.ClockKind.{ClockKind}
@@ -18,7 +17,7 @@ use Rattle.frame_pass.specs.DatagramAtSlave.{doing, slave_after}
 use Rattle.frame_pass.specs.FramePass.{at_arrival}
 use Rattle.frame_pass.specs.ClockHistory.{HasHistory, reset_of, events_told, events_on, events_wrote, events_by, events_in, events_passed}
 use Rattle.frame_pass.specs.PlainRegisters.{AreLeft}
-use Rattle.frame_pass.proofs.Sizes.{HasSize}
+use Rattle.frame_pass.proofs.Exported.{HasSize}
 use Rattle.visit_laws.specs.Rest.{IsReset, AreResets}
 use Rattle.visit_laws.proofs.Drifting.{not_covered}
 use Rattle.visit_laws.proofs.Ports.{goes_behind}

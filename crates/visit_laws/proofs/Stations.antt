@@ -9,7 +9,7 @@ use Rattle.frame_pass.specs.SlaveState.{Slave, holds, station}
 use Rattle.frame_pass.specs.DatagramTable.{Passes, Reads, Writes, reads, gain, raised_by, raises_adp, merges}
 use Rattle.frame_pass.specs.DatagramAtSlave.{doing, is_refused_by, datagram_after}
 use Rattle.frame_pass.specs.FramePass.{at_arrival, datagrams_passed, datagrams_behind}
-use Rattle.frame_pass.proofs.Sizes.{HasSize}
+use Rattle.frame_pass.proofs.Exported.{HasSize}
 use Rattle.visit_laws.specs.Counters.{slave_before, doing_in, gains}
 use Rattle.visit_laws.specs.Stations.{slave_found, IsAlone, BringsBack, IsReceived}
 use Rattle.visit_laws.proofs.Counting.{passed_at, does_at, is_sent, address_kept, counts, one_gains, data_kept, other_station, own_read, own_written}

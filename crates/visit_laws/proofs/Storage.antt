@@ -12,14 +12,12 @@ use Rattle.esc_regs.specs.RegisterBytes.{number_at}
 use Rattle.esc_regs.specs.RegisterTable.{Register, registers, held, is_within}
 use Rattle.esc_regs.specs.RegisterAccess.{stores, is_writable, rate_by}
 use Rattle.esc_regs.specs.RegisterWrite.{written}
-use Rattle.esc_regs.proofs.Storing.{stored_number}
-use Rattle.esc_regs.proofs.TableFacts.{both, within_test}
+use Rattle.esc_regs.proofs.Exported.{stored_number, both, within_test}
 use Rattle.frame_pass.specs.SlaveState.{Slave, holds}
 use Rattle.frame_pass.specs.DatagramTable.{writes}
 use Rattle.frame_pass.specs.DatagramAtSlave.{is_refused_by, doing, slave_after}
 use Rattle.frame_pass.specs.PlainRegisters.{IsPlain}
-use Rattle.frame_pass.proofs.Plain.{plain_datagram}
-use Rattle.frame_pass.proofs.Sizes.{HasSize}
+use Rattle.frame_pass.proofs.Exported.{plain_datagram, HasSize}
 use Rattle.visit_laws.specs.Stored.{is_stored_at, is_stored}
 
 either : (a b : Bool) → (a || b) ≡ true → (a ≡ true) ⊎ (b ≡ true)

@@ -6,7 +6,7 @@ use Rattle.std.proofs.lemmas.Bool.Decides.{nat_tests}
 use Rattle.esc_regs.specs.declared.clock_kind.ClockKind.{ClockKind}
 use Rattle.esc_regs.specs.RegisterTable.{Register, registers, held, is_within}
 use Rattle.esc_regs.specs.RegisterAccess.{stores, is_writable}
-use Rattle.esc_regs.proofs.TableFacts.{both, held_all, before_test, past_test}
+use Rattle.esc_regs.proofs.Exported.{both, held_all, before_test, past_test}
 
 -- a register none of whose bytes from low to high - 1 a write stores
 abbrev pub is_shut : Bool → ℕ → ℕ → Register → Bool

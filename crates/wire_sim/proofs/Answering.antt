@@ -4,7 +4,7 @@ use Rattle.std.specs.Prelude.{slice_get, if◌then◌else◌}
 use Rattle.ecat_frame.specs.FrameGrammar.{DatagramValue, FrameValue}
 use Rattle.ecat_frame.specs.Changed.{changed}
 use Rattle.wire_sim.specs.Seen.{replied}
-use Rattle.ecat_frame.proofs.Changes.{changed_agree, changed_twice}
+use Rattle.ecat_frame.proofs.Exported.{changed_agree, changed_twice}
 use Rattle.esc_regs.specs.declared.answers.Access.{Access}
 use Rattle.esc_regs.specs.declared.answers.Access.TheVariants as access
 use Rattle.esc_regs.specs.RegisterAccess.{is_refused}

@@ -7,7 +7,7 @@ use Rattle.sync_units.specs.KeptEdges.{put_all}
 use Rattle.sync_units.specs.Quiet.{spare_of}
 use Rattle.sync_units.specs.SyncRule.{Armed}
 use Rattle.sync_units.specs.declared.edge.Edge.{Edge}
-use Rattle.sync_units.proofs.Spare.{unit_spared, edges_spared, left_spare}
+use Rattle.sync_units.proofs.Exported.{unit_spared, edges_spared, left_spare}
 use Rattle.frame_pass.specs.SlaveState.{Timing}
 use Rattle.frame_pass.specs.Advancing.{timing_at}
 

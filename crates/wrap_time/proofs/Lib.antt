@@ -1,2 +1,3 @@
-pub mod Near
-pub mod Cuts
+mod Near
+mod Cuts
+pub mod Exported

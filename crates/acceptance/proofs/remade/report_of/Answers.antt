@@ -1,4 +1,4 @@
-use Rattle.bench_report.proofs.Measured.{run_delays}
+use Rattle.bench_report.proofs.Exported.{run_delays}
 use Rattle.acceptance.proofs.remade.report_of.Goals as goal
 
 pub summary-requires-clause-delays : goal.summary-requires-clause-delays

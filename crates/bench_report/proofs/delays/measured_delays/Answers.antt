@@ -1,6 +1,6 @@
 use Rattle.std.proofs.Common.{◌∙◌, ◌<◌, ◌++◌, None, length, sym, arith, ap₂, rules, [], ◌∷◌}
 use Rattle.std.proofs.lemmas.List.{take_all, take_more}
-use Rattle.edge_report.proofs.Places.{delays_many, slaves_many as rows_many}
+use Rattle.edge_report.proofs.Exported.{delays_many, slaves_many as rows_many}
 use Rattle.bench_report.proofs.delays.measured_delays.Goals as goal
 
 pub loop-position-preserved : goal.loop-position-preserved

@@ -1,6 +1,6 @@
 use Rattle.std.proofs.Common.{◌≡◌, ◌∙◌, ◌<◌, length, arith}
-use Rattle.edge_report.proofs.Places.{slaves_many as rows_many}
-use Rattle.segment_bench.proofs.Wires.{run_keeps}
+use Rattle.edge_report.proofs.Exported.{slaves_many as rows_many}
+use Rattle.segment_bench.proofs.Exported.{run_keeps}
 use Rattle.bench_report.proofs.EdgesOfRun.{are_edges}
 use Rattle.bench_report.proofs.KeptEdges.{slaves_many}
 use Rattle.bench_report.proofs.Own.{run_own}

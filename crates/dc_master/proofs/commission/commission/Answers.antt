@@ -1,7 +1,7 @@
 use Rattle.std.proofs.Common.{◌≡◌, ◌∙◌, map, sym, ap}
 use Rattle.dc_master.proofs.Causes.{slaves_cause}
 use Rattle.std.proofs.Common.{Ok, Err, arith}
-use Rattle.ecat_link.proofs.Serving.{serves_then, serves_weaker}
+use Rattle.ecat_link.proofs.Exported.{serves_then, serves_weaker}
 use Rattle.master_steps.specs.ConfigRange.{value_of}
 use Rattle.master_steps.specs.Known.{words_of}
 use Rattle.dc_master.proofs.Judging.{never_judged}

@@ -5,9 +5,9 @@ use Rattle.master_script.specs.Slaves.{SlaveWords}
 use Rattle.std.proofs.Common.{List}
 use Rattle.std.specs.List.{range_with_len}
 use Rattle.std.proofs.lemmas.List.{length_push}
-use Rattle.ecat_link.proofs.Serving.{serves_weaker}
+use Rattle.ecat_link.proofs.Exported.{serves_weaker}
 use Rattle.dc_delay.specs.ShapeRows.{positions}
-use Rattle.master_steps.proofs.Counting.{counted_then}
+use Rattle.master_steps.proofs.Exported.{counted_then}
 use Rattle.master_steps.specs.ConfigRange.{value_of}
 use Rattle.master_steps.specs.Known.{words_of}
 use Rattle.dc_master.proofs.Parts.{at_todo, range_more, refused_part, shown_none, then_err, then_ok}

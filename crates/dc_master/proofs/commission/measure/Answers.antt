@@ -1,7 +1,7 @@
 use Rattle.std.proofs.Common.{◌∷◌, ◌++◌, [], map, refl, ap, sym, ◌∙◌}
 use Rattle.dc_master.proofs.Causes.{step_causes}
 use Rattle.master_script.specs.Script.{Commission}
-use Rattle.ecat_link.proofs.Serving.{serves_then, serves_weaker}
+use Rattle.ecat_link.proofs.Exported.{serves_then, serves_weaker}
 use Rattle.master_steps.specs.ConfigRange.{value_of}
 use Rattle.master_steps.specs.Known.{words_of}
 use Rattle.dc_master.proofs.Parts.{at_todo, refused_part, then_err, then_ok}

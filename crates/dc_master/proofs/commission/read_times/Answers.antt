@@ -3,14 +3,13 @@ use Rattle.dc_master.proofs.Causes.{step_causes}
 use Rattle.master_script.specs.Script.{Commission}
 use Rattle.std.specs.List.{range_with_len}
 use Rattle.std.proofs.lemmas.List.{length-map, length-set}
-use Rattle.ecat_link.proofs.Serving.{serves_none, serves_weaker}
+use Rattle.ecat_link.proofs.Exported.{serves_none, serves_weaker}
 use Rattle.dc_bounds.specs.Weight.{flag}
 use Rattle.dc_delay.specs.Latched.{measures}
 use Rattle.dc_delay.specs.declared.latch.Latch.{Latch}
-use Rattle.master_steps.proofs.Counting.{counted_none, counted_then}
+use Rattle.master_steps.proofs.Exported.{counted_none, counted_then, left, left_end}
 use Rattle.master_steps.specs.ConfigRange.{value_of}
 use Rattle.master_steps.specs.Known.{words_of}
-use Rattle.master_steps.proofs.Left.{left, left_end}
 use Rattle.dc_master.proofs.Parts.{at_todo, steps_no, steps_yes, then_err, then_ok}
 use Rattle.dc_master.proofs.Times.{read_all, read_more, read_over, shown_ahead, unread_more}
 use Rattle.dc_master.proofs.commission.read_times.Goals as goal

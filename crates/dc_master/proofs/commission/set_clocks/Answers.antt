@@ -2,12 +2,11 @@ use Rattle.std.proofs.Common.{◌≡◌, ◌+◌, ◌-◌, ◌<◌, [], ℕ, Lis
 use Rattle.dc_master.proofs.Causes.{step_causes}
 use Rattle.master_script.specs.Script.{Commission}
 use Rattle.std.specs.List.{range_with_len}
-use Rattle.ecat_link.proofs.Serving.{serves_none, serves_weaker}
+use Rattle.ecat_link.proofs.Exported.{serves_none, serves_weaker}
 use Rattle.dc_bounds.specs.Weight.{flag}
-use Rattle.master_steps.proofs.Counting.{counted_none, counted_then}
+use Rattle.master_steps.proofs.Exported.{counted_none, counted_then, left, left_end, left_no, left_yes}
 use Rattle.master_steps.specs.ConfigRange.{value_of}
 use Rattle.master_steps.specs.Known.{words_of}
-use Rattle.master_steps.proofs.Left.{left, left_end, left_no, left_yes}
 use Rattle.dc_master.proofs.Parts.{at_todo, then_err, then_ok}
 use Rattle.dc_master.proofs.Times.{shown_set}
 use Rattle.dc_master.proofs.commission.set_clocks.Goals as goal

@@ -5,12 +5,11 @@ use Rattle.master_script.specs.Words.{Words, reference_of}
 use Rattle.master_script.specs.Slaves.{clocks}
 use Rattle.master_script.specs.Script.{Run}
 use Rattle.ecat_frame.specs.Built.{built}
-use Rattle.ecat_link.proofs.Serving.{serves_none, serves_weaker}
-use Rattle.master_steps.proofs.Counting.{counted_none, counted_then}
+use Rattle.ecat_link.proofs.Exported.{serves_none, serves_weaker}
+use Rattle.master_steps.proofs.Exported.{counted_none, counted_then, never_lost}
 use Rattle.master_steps.specs.ConfigRange.{value_of}
 use Rattle.master_steps.specs.Known.{words_of}
 use Rattle.dc_master.proofs.Driving.{ran_as, refused_as, run_back, run_missed, run_refused}
-use Rattle.master_steps.proofs.Shapes.{never_lost}
 use Rattle.dc_master.proofs.drift.run.Goals as goal
 use Rattle.dc_master.proofs.drift.run.Goals.{in-Some+in_default-judge_drift, in_default}
 use Rattle.master_script.specs.Frames.{drift_datagrams}

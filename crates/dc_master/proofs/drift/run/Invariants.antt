@@ -4,11 +4,11 @@ use Rattle.master_steps.specs.ConfigRange.{value_of}
 use Rattle.master_steps.specs.Known.{words_of}
 use Rattle.dc_master.specs.Places.{AtRest, HasSent}
 use Rattle.master_steps.specs.Asking.{IsCounted}
-use Rattle.master_steps.proofs.Trying.{sent_of}
+use Rattle.master_steps.proofs.Exported.{sent_of}
 use Rattle.dc_master.proofs.drift.run.Given as goal
 use Rattle.master_script.specs.Progress.{Running, progress}
 use Rattle.master_script.specs.Script.{Run, script}
-use Rattle.master_script.proofs.Drifts.{run_at}
+use Rattle.master_script.proofs.Exported.{run_at}
 
 abbrev pub invariant-loop-number : goal.invariant-loop-number
 invariant-loop-number g l = record {

@@ -2,8 +2,8 @@ use Rattle.std.proofs.Common.{◌≡◌, ◌∙◌, ◌<◌, Ok, Err, refl, sym,
 use Rattle.dc_master.proofs.Causes.{cause_as, drift_causes}
 use Rattle.master_script.specs.Script.{Settle as SettleCall}
 use Rattle.ecat_frame.specs.Built.{built}
-use Rattle.ecat_link.proofs.Serving.{serves_none, serves_weaker}
-use Rattle.master_steps.proofs.Counting.{counted_none, counted_then}
+use Rattle.ecat_link.proofs.Exported.{serves_none, serves_weaker}
+use Rattle.master_steps.proofs.Exported.{counted_none, counted_then}
 use Rattle.master_steps.specs.ConfigRange.{value_of}
 use Rattle.master_steps.specs.Known.{words_of}
 use Rattle.dc_master.proofs.Driving.{ready_timed, refused_behind, refused_same, settle_back, settle_first, settle_missed, settle_none, time_none, timed_never, words_timed}

@@ -5,11 +5,11 @@ use Rattle.master_steps.specs.ConfigRange.{value_of}
 use Rattle.master_steps.specs.Known.{words_of}
 use Rattle.dc_master.specs.Places.{AtRest, HasSent}
 use Rattle.master_steps.specs.Asking.{IsCounted}
-use Rattle.master_steps.proofs.Trying.{sent_of}
+use Rattle.master_steps.proofs.Exported.{sent_of}
 use Rattle.dc_master.proofs.drift.settle.Given as goal
 use Rattle.master_script.specs.Progress.{Settling}
 use Rattle.master_script.specs.Script.{Settle, script}
-use Rattle.master_script.proofs.Drifts.{AtSettle}
+use Rattle.master_script.proofs.Exported.{AtSettle}
 
 abbrev pub invariant-loop-number : goal.invariant-loop-number
 invariant-loop-number g l = record {

@@ -3,7 +3,7 @@ use Rattle.std.proofs.lemmas.List.{length-map}
 use Rattle.dc_master.proofs.Judging.{if_err, listed, listed_length, on_ok, unlisted}
 use Rattle.dc_master.proofs.judgement.tree.Goals as goal
 use Rattle.master_script.specs.Slaves.{SlaveWords, tree_told}
-use Rattle.master_script.proofs.Trees.{tree_listed}
+use Rattle.master_script.proofs.Exported.{tree_listed}
 
 pub returns-clause-ok : goal.returns-clause-ok
 returns-clause-ok c =

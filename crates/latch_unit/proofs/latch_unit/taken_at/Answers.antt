@@ -1,5 +1,5 @@
 use Rattle.std.proofs.Common.{arith}
-use Rattle.osc_clock.proofs.TickLaws.{among_few}
+use Rattle.osc_clock.proofs.Exported.{among_few}
 use Rattle.latch_unit.proofs.latch_unit.taken_at.Goals as goal
 
 pub overflow_add-tick : goal.overflow_add-tick

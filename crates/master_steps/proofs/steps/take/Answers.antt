@@ -1,4 +1,4 @@
-use Rattle.ecat_link.proofs.Serving.{serves_weaker}
+use Rattle.ecat_link.proofs.Exported.{serves_weaker}
 use Rattle.master_steps.proofs.Causes.{received_causes}
 use Rattle.master_steps.specs.ConfigRange.{value_of}
 use Rattle.master_steps.specs.Known.{words_of}

@@ -1,8 +1,8 @@
 use Rattle.std.proofs.Common.{◌≡◌, ◌∙◌, ap, arith, is_some, map, take_all}
 use Rattle.cable_tree.specs.FrameOrder.{order}
-use Rattle.edge_report.proofs.Places.{slaves_many}
+use Rattle.edge_report.proofs.Exported.{slaves_many}
 use Rattle.edge_report.specs.Slaves.{slave_at}
-use Rattle.segment_file.proofs.LegalLemmas.{order_many}
+use Rattle.segment_file.proofs.Exported.{order_many}
 use Rattle.segment_file.specs.Segment.{RowValue, clock_at, is_clock, tree_rows}
 use Rattle.report_cases.proofs.Making.{delay_more, some_if}
 use Rattle.report_cases.proofs.delays.delays_of.Goals as goal

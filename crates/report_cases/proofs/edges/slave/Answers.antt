@@ -1,5 +1,5 @@
 use Rattle.std.proofs.Common.{◌∙◌, arith}
-use Rattle.edge_report.proofs.Places.{seen_at}
+use Rattle.edge_report.proofs.Exported.{seen_at}
 use Rattle.report_cases.proofs.edges.slave.Goals as goal
 
 pub returns : goal.returns

@@ -1,4 +1,4 @@
-use Rattle.run_schedule.proofs.Joined.{commissioned_answers, settled_answers, armed_answers, ran_answers}
+use Rattle.run_schedule.proofs.Exported.{commissioned_answers, settled_answers, armed_answers, ran_answers}
 use Rattle.run_answers.proofs.Premise.{honest_replies}
 use Rattle.run_answers.proofs.Whole.{whole_answers}
 use Rattle.run_answers.proofs.laws.losses_tell_the_answer.Goals as goal

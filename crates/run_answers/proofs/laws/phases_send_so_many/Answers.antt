@@ -1,4 +1,4 @@
-use Rattle.run_schedule.proofs.Shape.{commissioned_sends, settled_sends, armed_sends, ran_sends}
+use Rattle.run_schedule.proofs.Exported.{commissioned_sends, settled_sends, armed_sends, ran_sends}
 use Rattle.run_answers.proofs.Premise.{honest_replies}
 use Rattle.run_answers.proofs.laws.phases_send_so_many.Goals as goal
 

@@ -3,7 +3,7 @@ use Rattle.frame_pass.specs.SegmentState.{segment_step}
 use Rattle.ecat_link.specs.Serves.{Serves}
 use Rattle.master_script.specs.Kept.{StandsFor, Ends}
 use Rattle.master_script.specs.Script.{Commission, script}
-use Rattle.run_of_file.proofs.Calls.{commissioned_by}
+use Rattle.run_of_file.proofs.Exported.{commissioned_by}
 use Rattle.segment_bench.proofs.bench.commission.Goals as goal
 
 pub returns : goal.returns

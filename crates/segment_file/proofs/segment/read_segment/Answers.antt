@@ -1,5 +1,5 @@
 use Rattle.segment_shape.specs.Seen.{shape_seen}
-use Rattle.segment_shape.proofs.RangeLemmas.{file_ranges}
+use Rattle.segment_shape.proofs.Exported.{file_ranges}
 use Rattle.segment_file.proofs.FaultLemmas.{told_at_error}
 use Rattle.segment_file.proofs.segment.read_segment.Goals as goal
 

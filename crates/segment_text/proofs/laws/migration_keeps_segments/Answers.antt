@@ -1,5 +1,5 @@
 use Rattle.std.proofs.Common.{refl}
-use Rattle.segment_file.proofs.WrittenLemmas.{written_text}
+use Rattle.segment_file.proofs.Exported.{written_text}
 use Rattle.segment_text.specs.Migrated.{migrated}
 use Rattle.segment_text.proofs.MigratedLemmas.{newest, migrated_legal, text_again}
 use Rattle.segment_text.proofs.laws.migration_keeps_segments.Goals as goal

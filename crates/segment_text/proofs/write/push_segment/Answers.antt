@@ -8,7 +8,7 @@ use Rattle.segment_text.specs.HeadText.{back_text, front_text}
 use Rattle.segment_text.specs.Text.{entry_text}
 use Rattle.segment_text.proofs.TextLemmas.{whole_text}
 use Rattle.segment_text.proofs.RowLemmas.{on_ok}
-use Rattle.segment_file.proofs.WrittenLemmas.{written_text}
+use Rattle.segment_file.proofs.Exported.{written_text}
 use Rattle.segment_text.proofs.write.push_segment.Goals as goal
 
 pub returns-clause-is : goal.returns-clause-is

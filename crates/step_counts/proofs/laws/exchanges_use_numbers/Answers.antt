@@ -1,4 +1,4 @@
-use Rattle.lost_step.proofs.Asking.{asked_few, asked_ok}
+use Rattle.lost_step.proofs.Exported.{asked_few, asked_ok}
 use Rattle.step_counts.proofs.Numbers.{lost_there, numbers_used}
 use Rattle.step_counts.proofs.laws.exchanges_use_numbers.Goals as goal
 

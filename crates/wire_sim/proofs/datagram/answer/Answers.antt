@@ -2,7 +2,7 @@ use Rattle.std.proofs.Common.{◌≡◌, ◌+◌, ◌%◌, ◌^◌, Some, refl, 
 use Rattle.std.specs.Prelude.{slice_get}
 use Rattle.ecat_frame.specs.FrameGrammar.{DatagramValue, FrameValue}
 use Rattle.ecat_frame.specs.Reading.{seen}
-use Rattle.ecat_frame.proofs.Changes.{slice_get-modify_same}
+use Rattle.ecat_frame.proofs.Exported.{slice_get-modify_same}
 use Rattle.wire_sim.specs.Seen.{doing_seen}
 use Rattle.wire_sim.proofs.Answering.{left_is}
 use Rattle.wire_sim.proofs.datagram.answer.Goals as goal

@@ -1,6 +1,6 @@
 use Rattle.std.proofs.Common.{◌≡◌, sym, ap, ◌∙◌}
 use Rattle.ecat_frame.specs.FrameGrammar.{DatagramValue}
-use Rattle.ecat_frame.proofs.Changes.{changed_none}
+use Rattle.ecat_frame.proofs.Exported.{changed_none}
 use Rattle.wire_sim.proofs.InOrder.{found, at_found}
 use Rattle.wire_sim.proofs.datagram.leave_wkc.Goals as goal
 

@@ -1,6 +1,6 @@
 use Rattle.std.proofs.Common.{refl, false}
 use Rattle.ecat_frame.specs.FrameGrammar.{DatagramValue}
-use Rattle.ecat_frame.proofs.Changes.{changed_twice}
+use Rattle.ecat_frame.proofs.Exported.{changed_twice}
 use Rattle.wire_sim.specs.Seen.{replied}
 use Rattle.wire_sim.proofs.InOrder.{found}
 use Rattle.wire_sim.proofs.datagram.reply.Goals as goal

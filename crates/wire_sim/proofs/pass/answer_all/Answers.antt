@@ -1,5 +1,5 @@
 use Rattle.std.proofs.Common.{◌≡◌, arith, sym, ◌∙◌}
-use Rattle.ecat_frame.proofs.Changes.{length-modify}
+use Rattle.ecat_frame.proofs.Exported.{length-modify}
 use Rattle.frame_pass.specs.DatagramAtSlave.{datagram_after, slave_after, is_latching}
 use Rattle.wire_sim.proofs.InOrder.{found, slave_more, frame_more, latching_more, slave_end, frame_end, latching_end, at_found}
 use Rattle.wire_sim.proofs.pass.answer_all.Goals as goal
