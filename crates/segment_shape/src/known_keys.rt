@@ -3,55 +3,65 @@ ghost use Rattle.std.specs.Prelude.{◌≡◌, map};
 ghost use Rattle.std.specs.List.{list_any};
 ghost use Rattle.std.specs.Str.{bytes_eq};
 ghost use Rattle.serde_json.specs.View.{members_view};
+ghost use Rattle.segment_shape.specs.KeyNames.{name_of};
 ghost use Rattle.segment_shape.specs.Keys.{are_among, head_keys, slave_keys, rate_keys, loss_keys};
 
+use crate::key::Key;
 use serde_json::{Map, Value};
 
-const HEAD_KEYS: [&str; 10] = [
-    "version", "ppm", "frame_ns", "speed", "loss_run", "epoch_ns", "cycle_ns", "cycles", "slaves",
-    "losses",
+const HEAD_KEYS: [Key; 10] = [
+    Key::Version,
+    Key::Ppm,
+    Key::FrameNs,
+    Key::Speed,
+    Key::LossRun,
+    Key::EpochNs,
+    Key::CycleNs,
+    Key::Cycles,
+    Key::Slaves,
+    Key::Losses,
 ];
 
-const SLAVE_KEYS: [&str; 12] = [
-    "id",
-    "clock",
-    "tp_ns",
-    "tf_ns",
-    "cable_ps",
-    "parent",
-    "port",
-    "start",
-    "phase_fs",
-    "period_fs",
-    "shift_ns",
-    "sync1_ns",
+const SLAVE_KEYS: [Key; 12] = [
+    Key::Id,
+    Key::Clock,
+    Key::TpNs,
+    Key::TfNs,
+    Key::CablePs,
+    Key::Parent,
+    Key::Port,
+    Key::Start,
+    Key::PhaseFs,
+    Key::PeriodFs,
+    Key::ShiftNs,
+    Key::Sync1Ns,
 ];
 
-const CHANGING_SLAVE_KEYS: [&str; 13] = [
-    "id",
-    "clock",
-    "tp_ns",
-    "tf_ns",
-    "cable_ps",
-    "parent",
-    "port",
-    "start",
-    "phase_fs",
-    "period_fs",
-    "shift_ns",
-    "sync1_ns",
-    "rates",
+const CHANGING_SLAVE_KEYS: [Key; 13] = [
+    Key::Id,
+    Key::Clock,
+    Key::TpNs,
+    Key::TfNs,
+    Key::CablePs,
+    Key::Parent,
+    Key::Port,
+    Key::Start,
+    Key::PhaseFs,
+    Key::PeriodFs,
+    Key::ShiftNs,
+    Key::Sync1Ns,
+    Key::Rates,
 ];
 
-const RATE_KEYS: [&str; 2] = ["tick", "period_fs"];
+const RATE_KEYS: [Key; 2] = [Key::Tick, Key::PeriodFs];
 
-const LOSS_KEYS: [&str; 3] = ["phase", "number", "after"];
+const LOSS_KEYS: [Key; 3] = [Key::Phase, Key::Number, Key::After];
 
-fn is_one_of(key: &str, keys: &[&str]) -> bool
-    ensures { result ≡ list_any (bytes_eq key.now) (map (λ k. k.now) keys.now) }
+fn is_one_of(key: &str, keys: &[Key]) -> bool
+    ensures { result ≡ list_any (bytes_eq key.now) (map name_of keys.now) }
 {
     for known in keys {
-        if key == *known {
+        if key == known.name() {
             return true;
         }
     }
@@ -59,8 +69,8 @@ fn is_one_of(key: &str, keys: &[&str]) -> bool
 }
 
 #[tactic(auto, unfolding(crate::specs::Keys::are_among))]
-fn are_among(members: &Map<String, Value>, keys: &[&str]) -> bool
-    ensures { result ≡ are_among (map (λ k. k.now) keys.now) (members_view members.now.entries) }
+fn are_among(members: &Map<String, Value>, keys: &[Key]) -> bool
+    ensures { result ≡ are_among (map name_of keys.now) (members_view members.now.entries) }
 {
     for (key, _value) in members {
         if !is_one_of(key.as_str(), keys) {
@@ -74,7 +84,7 @@ fn are_among(members: &Map<String, Value>, keys: &[&str]) -> bool
 pub(crate) fn are_head_keys(members: &Map<String, Value>) -> bool
     ensures { result ≡ are_among head_keys (members_view members.now.entries) }
 {
-    let keys: [&str; 10] = HEAD_KEYS;
+    let keys: [Key; 10] = HEAD_KEYS;
     are_among(members, keys.as_slice())
 }
 
@@ -83,10 +93,10 @@ pub(crate) fn are_slave_keys(members: &Map<String, Value>, changes: bool) -> boo
     ensures { result ≡ are_among (slave_keys changes) (members_view members.now.entries) }
 {
     if changes {
-        let keys: [&str; 13] = CHANGING_SLAVE_KEYS;
+        let keys: [Key; 13] = CHANGING_SLAVE_KEYS;
         are_among(members, keys.as_slice())
     } else {
-        let keys: [&str; 12] = SLAVE_KEYS;
+        let keys: [Key; 12] = SLAVE_KEYS;
         are_among(members, keys.as_slice())
     }
 }
@@ -95,7 +105,7 @@ pub(crate) fn are_slave_keys(members: &Map<String, Value>, changes: bool) -> boo
 pub(crate) fn are_rate_keys(members: &Map<String, Value>) -> bool
     ensures { result ≡ are_among rate_keys (members_view members.now.entries) }
 {
-    let keys: [&str; 2] = RATE_KEYS;
+    let keys: [Key; 2] = RATE_KEYS;
     are_among(members, keys.as_slice())
 }
 
@@ -103,6 +113,6 @@ pub(crate) fn are_rate_keys(members: &Map<String, Value>) -> bool
 pub(crate) fn are_loss_keys(members: &Map<String, Value>) -> bool
     ensures { result ≡ are_among loss_keys (members_view members.now.entries) }
 {
-    let keys: [&str; 3] = LOSS_KEYS;
+    let keys: [Key; 3] = LOSS_KEYS;
     are_among(members, keys.as_slice())
 }
