@@ -22,22 +22,8 @@ const HEAD_KEYS: [Key; 10] = [
     Key::Losses,
 ];
 
-const SLAVE_KEYS: [Key; 12] = [
-    Key::Id,
-    Key::Clock,
-    Key::TpNs,
-    Key::TfNs,
-    Key::CablePs,
-    Key::Parent,
-    Key::Port,
-    Key::Start,
-    Key::PhaseFs,
-    Key::PeriodFs,
-    Key::ShiftNs,
-    Key::Sync1Ns,
-];
-
-const CHANGING_SLAVE_KEYS: [Key; 13] = [
+// The last where the period may change.
+const SLAVE_KEYS: [Key; 13] = [
     Key::Id,
     Key::Clock,
     Key::TpNs,
@@ -84,35 +70,27 @@ fn are_among(members: &Map<String, Value>, keys: &[Key]) -> bool
 pub(crate) fn are_head_keys(members: &Map<String, Value>) -> bool
     ensures { result ≡ are_among head_keys (members_view members.now.entries) }
 {
-    let keys: [Key; 10] = HEAD_KEYS;
-    are_among(members, keys.as_slice())
+    are_among(members, &HEAD_KEYS)
 }
 
 #[tactic(auto, unfolding(crate::specs::Keys::slave_keys))]
 pub(crate) fn are_slave_keys(members: &Map<String, Value>, changes: bool) -> bool
     ensures { result ≡ are_among (slave_keys changes) (members_view members.now.entries) }
 {
-    if changes {
-        let keys: [Key; 13] = CHANGING_SLAVE_KEYS;
-        are_among(members, keys.as_slice())
-    } else {
-        let keys: [Key; 12] = SLAVE_KEYS;
-        are_among(members, keys.as_slice())
-    }
+    let known = if changes { 13 } else { 12 };
+    are_among(members, &SLAVE_KEYS[..known])
 }
 
 #[tactic(auto, unfolding(crate::specs::Keys::rate_keys))]
 pub(crate) fn are_rate_keys(members: &Map<String, Value>) -> bool
     ensures { result ≡ are_among rate_keys (members_view members.now.entries) }
 {
-    let keys: [Key; 2] = RATE_KEYS;
-    are_among(members, keys.as_slice())
+    are_among(members, &RATE_KEYS)
 }
 
 #[tactic(auto, unfolding(crate::specs::Keys::loss_keys))]
 pub(crate) fn are_loss_keys(members: &Map<String, Value>) -> bool
     ensures { result ≡ are_among loss_keys (members_view members.now.entries) }
 {
-    let keys: [Key; 3] = LOSS_KEYS;
-    are_among(members, keys.as_slice())
+    are_among(members, &LOSS_KEYS)
 }
