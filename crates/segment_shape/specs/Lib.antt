@@ -1,4 +1,6 @@
 pub mod Paths
+pub mod KeyNames
+pub mod FaultPaths
 pub mod Values
 pub mod Keys
 pub mod Rows

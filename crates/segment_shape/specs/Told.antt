@@ -7,6 +7,13 @@ use Rattle.segment_shape.specs.ShapeOf.{ShapeValue, Refusal, bad_shape, id_twice
 use Rattle.segment_shape.specs.declared.shape_error.ShapeError.{ShapeError}
 use Rattle.segment_shape.specs.declared.shape_error.ShapeError.TheVariants.{BadText, Shape, Twice, NoMemory}
 
+-- the error is a fault of the shape at this path
+abbrev pub IsAt : List ℕ → ShapeError → Type 0
+IsAt path BadText = ⊥
+IsAt path (Shape found) = found.bytes ≡ path
+IsAt path (Twice id) = ⊥
+IsAt path NoMemory = ⊥
+
 -- the error is the fault that a reading found, or memory was refused
 abbrev pub IsFault : {A : Type 0} → Reading A → ShapeError → Type 0
 IsFault reading BadText = ⊥

@@ -11,15 +11,18 @@
 #![tactic(auto)]
 
 mod id;
+mod key;
 mod key_path;
 mod known_keys;
 mod laws;
 mod loss_list;
 mod loss_row;
 mod rate_rows;
+mod row_fault;
 mod segment_head;
 mod shape;
 mod shape_error;
+mod slave_fault;
 mod slave_row;
 mod value_at;
 

@@ -1,9 +1,10 @@
 ghost use Rattle.std.specs.Prelude.{◌≡◌, ◌≤◌, IfOk, IfErr, length, Ok, Err};
 ghost use Rattle.serde_json.specs.View.{view};
 ghost use Rattle.segment_shape.specs.Head.{head_of};
+ghost use Rattle.segment_shape.specs.KeyNames.{name_of};
 ghost use Rattle.segment_shape.specs.Seen.{head_seen};
 
-use crate::key_path::KeyPath;
+use crate::key::Key;
 use crate::value_at::number_at;
 use serde_json::Value;
 
@@ -29,19 +30,19 @@ pub struct Head {
 }
 
 #[tactic(auto, unfolding(crate::specs::Head::head_of))]
-pub(crate) fn head_of(value: &Value) -> Result<Head, KeyPath>
+pub(crate) fn head_of(value: &Value) -> Result<Head, Key>
     ensures ok { IfOk result (λ h. head_of (view value.now) ≡ Ok (head_seen h)) }
-    ensures err { IfErr result (λ e. head_of (view value.now) ≡ Err e.bytes) }
+    ensures err { IfErr result (λ k. head_of (view value.now) ≡ Err (name_of k)) }
     ensures cycle { IfOk result (λ h. 1 ≤ h.cycle_ns) }
 {
-    let version = number_at(value, "version", 1, 2)?;
-    let ppm = number_at(value, "ppm", 0, 100)?;
-    let frame_ns = number_at(value, "frame_ns", 50_000, 10_000_000)?;
-    let speed = number_at(value, "speed", 128, 16_383)?;
-    let loss_run = number_at(value, "loss_run", 0, 15)?;
-    let epoch_ns = number_at(value, "epoch_ns", 0, 4_000_000_000_000_000_000)?;
-    let cycle_ns = number_at(value, "cycle_ns", 50_000, 500_000_000)?;
-    let cycles = number_at(value, "cycles", 1, 100_000)?;
+    let version = number_at(value, Key::Version, 1, 2)?;
+    let ppm = number_at(value, Key::Ppm, 0, 100)?;
+    let frame_ns = number_at(value, Key::FrameNs, 50_000, 10_000_000)?;
+    let speed = number_at(value, Key::Speed, 128, 16_383)?;
+    let loss_run = number_at(value, Key::LossRun, 0, 15)?;
+    let epoch_ns = number_at(value, Key::EpochNs, 0, 4_000_000_000_000_000_000)?;
+    let cycle_ns = number_at(value, Key::CycleNs, 50_000, 500_000_000)?;
+    let cycles = number_at(value, Key::Cycles, 1, 100_000)?;
     Ok(Head {
         version: version as u8,
         ppm: ppm as u32,

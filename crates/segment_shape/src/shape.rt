@@ -11,7 +11,8 @@ ghost use Rattle.segment_shape.specs.Seen.{row_seen, shape_seen};
 ghost use Rattle.segment_shape.specs.Told.{IsFault, IsRefusal, IsShape, IsTold};
 
 use crate::id::Id;
-use crate::key_path::{key_path, within_element};
+use crate::key::Key;
+use crate::key_path::{loss_path, root_path, slave_path};
 use crate::known_keys::are_head_keys;
 use crate::loss_list::LossList;
 use crate::loss_row::loss_in;
@@ -47,8 +48,8 @@ fn rows_in(alloc: Global, values: &[Value], head: Head) -> Result<Vec<ShapeRow>,
                     return Err(ShapeError::NoMemory);
                 }
             }
-            Err(path) => {
-                return Err(ShapeError::Shape(within_element("slaves", rows.len(), &path)));
+            Err(fault) => {
+                return Err(ShapeError::Shape(slave_path(rows.len() as u8, fault)));
             }
         }
     }
@@ -64,8 +65,8 @@ fn losses_in(alloc: Global, values: &[Value], slaves: u16) -> Result<LossList, S
     for value in values {
         match loss_in(value, slaves, &losses) {
             Ok(row) => losses.push(row)?,
-            Err(path) => {
-                return Err(ShapeError::Shape(within_element("losses", losses.len(), &path)));
+            Err(fault) => {
+                return Err(ShapeError::Shape(loss_path(losses.len() as u16, fault)));
             }
         }
     }
@@ -79,13 +80,13 @@ fn shape_of(alloc: Global, value: &Value) -> Result<Shape, ShapeError>
     ensures err { IfErr result (IsFault (shape_of (view value.now))) }
 {
     let Some(members) = value.as_object() else {
-        return Err(ShapeError::Shape(key_path("$")));
+        return Err(ShapeError::Shape(root_path()));
     };
     let head = head_of(value)?;
-    let slaves = items_at(value, "slaves", 256)?;
-    let losses = items_if_any(value, "losses", 10_000)?;
+    let slaves = items_at(value, Key::Slaves, 256)?;
+    let losses = items_if_any(value, Key::Losses, 10_000)?;
     if !are_head_keys(members) {
-        return Err(ShapeError::Shape(key_path("$")));
+        return Err(ShapeError::Shape(root_path()));
     }
     let rows = rows_in(alloc, slaves, head)?;
     let losses = losses_in(alloc, losses, rows.len() as u16)?;

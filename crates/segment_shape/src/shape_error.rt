@@ -1,8 +1,11 @@
 ghost use Rattle.std.specs.Prelude.{◌≡◌};
-ghost use Rattle.segment_shape.specs.declared.shape_error.ShapeError.TheVariants.{Shape, NoMemory};
+ghost use Rattle.segment_shape.specs.KeyNames.{name_of};
+ghost use Rattle.segment_shape.specs.Told.{IsAt};
+ghost use Rattle.segment_shape.specs.declared.shape_error.ShapeError.TheVariants.{NoMemory};
 
 use crate::id::Id;
-use crate::key_path::KeyPath;
+use crate::key::Key;
+use crate::key_path::{KeyPath, key_path};
 use std::alloc::AllocError;
 
 /// Why bytes are no segment file, by the first check that fails.
@@ -19,11 +22,11 @@ pub enum ShapeError {
     NoMemory,
 }
 
-impl From<KeyPath> for ShapeError {
-    ghost from_gives = { λ path e. e ≡ Shape path };
+impl From<Key> for ShapeError {
+    ghost from_gives = { λ key e. IsAt (name_of key) e };
 
-    fn from(path: KeyPath) -> ShapeError {
-        ShapeError::Shape(path)
+    fn from(key: Key) -> ShapeError {
+        ShapeError::Shape(key_path(key))
     }
 }
 

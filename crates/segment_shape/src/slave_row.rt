@@ -1,12 +1,16 @@
 ghost use Rattle.std.specs.Prelude.{◌≡◌, ◌≤◌, ◌-◌, IfOk, IfErr, IfSome, length, option_map, Ok, Err};
 ghost use Rattle.serde_json.specs.View.{view};
+ghost use Rattle.segment_shape.specs.FaultPaths.{path_of_slave};
+ghost use Rattle.segment_shape.specs.KeyNames.{name_of};
 ghost use Rattle.segment_shape.specs.Slaves.{measures, has_clock, greatest_start, changes, kind_named, kind_of, kind_at, parent_of, place_of, rates_where, times_of, slave_of};
 ghost use Rattle.segment_shape.specs.Seen.{parent_seen, place_seen, times_seen, row_seen};
 
 use crate::id::Id;
-use crate::key_path::{KeyPath, key_path};
+use crate::key::Key;
 use crate::known_keys::are_slave_keys;
 use crate::rate_rows::rates_of;
+use crate::row_fault::RowFault;
+use crate::slave_fault::SlaveFault;
 use crate::value_at::{id_at, id_of, number_at, number_where, option_where};
 use esc_regs::ClockKind;
 use osc_clock::RateList;
@@ -120,37 +124,35 @@ fn kind_named(text: &str) -> Option<ClockKind>
 fn kind_of(value: &Value) -> Option<ClockKind>
     ensures { result ≡ kind_of (view value.now) }
 {
-    kind_named(value.get("clock")?.as_str()?)
+    kind_named(value.get(Key::Clock.name())?.as_str()?)
 }
 
-fn kind_at(value: &Value) -> Result<ClockKind, KeyPath>
+fn kind_at(value: &Value) -> Result<ClockKind, Key>
     ensures ok { IfOk result (λ k. kind_at (view value.now) ≡ Ok k) }
-    ensures err { IfErr result (λ e. kind_at (view value.now) ≡ Err e.bytes) }
-    ensures short { IfErr result (λ e. length e.bytes ≤ 10) }
+    ensures err { IfErr result (λ k. kind_at (view value.now) ≡ Err (name_of k)) }
 {
     match kind_of(value) {
         Some(kind) => Ok(kind),
-        None => Err(key_path("clock")),
+        None => Err(Key::Clock),
     }
 }
 
 /// The parent and its port: both there, or at the root neither.
 #[tactic(auto, unfolding(crate::specs::Slaves::parent_of))]
-fn parent_of(value: &Value) -> Result<Option<Parent>, KeyPath>
+fn parent_of(value: &Value) -> Result<Option<Parent>, Key>
     ensures ok { IfOk result (λ p. parent_of (view value.now) ≡ Ok (option_map parent_seen p)) }
-    ensures err { IfErr result (λ e. parent_of (view value.now) ≡ Err e.bytes) }
-    ensures short { IfErr result (λ e. length e.bytes ≤ 10) }
+    ensures err { IfErr result (λ k. parent_of (view value.now) ≡ Err (name_of k)) }
 {
-    let Some(parent) = value.get("parent") else {
-        return match value.get("port") {
+    let Some(parent) = value.get(Key::Parent.name()) else {
+        return match value.get(Key::Port.name()) {
             None => Ok(None),
-            Some(_) => Err(key_path("port")),
+            Some(_) => Err(Key::Port),
         };
     };
     let Some(id) = id_of(parent) else {
-        return Err(key_path("parent"));
+        return Err(Key::Parent);
     };
-    let port = number_at(value, "port", 1, 3)?;
+    let port = number_at(value, Key::Port, 1, 3)?;
     Ok(Some(Parent {
         id,
         port: port as u8,
@@ -158,16 +160,15 @@ fn parent_of(value: &Value) -> Result<Option<Parent>, KeyPath>
 }
 
 #[tactic(auto, unfolding(crate::specs::Slaves::place_of))]
-fn place_of(value: &Value) -> Result<Place, KeyPath>
+fn place_of(value: &Value) -> Result<Place, Key>
     ensures ok { IfOk result (λ p. place_of (view value.now) ≡ Ok (place_seen p)) }
-    ensures err { IfErr result (λ e. place_of (view value.now) ≡ Err e.bytes) }
-    ensures short { IfErr result (λ e. length e.bytes ≤ 10) }
+    ensures err { IfErr result (λ k. place_of (view value.now) ≡ Err (name_of k)) }
 {
-    let id = id_at(value, "id")?;
+    let id = id_at(value, Key::Id)?;
     let kind = kind_at(value)?;
-    let tp_ns = number_at(value, "tp_ns", 1, 10_000)?;
-    let tf_ns = number_at(value, "tf_ns", 1, 10_000)?;
-    let cable_ps = number_at(value, "cable_ps", 0, 100_000_000)?;
+    let tp_ns = number_at(value, Key::TpNs, 1, 10_000)?;
+    let tf_ns = number_at(value, Key::TfNs, 1, 10_000)?;
+    let cable_ps = number_at(value, Key::CablePs, 0, 100_000_000)?;
     let parent = parent_of(value)?;
     Ok(Place {
         id,
@@ -186,10 +187,9 @@ fn changes(version: u8, kind: ClockKind) -> bool
     version == 2 && measures(kind)
 }
 
-fn rates_where(value: &Value, changes: bool) -> Result<RateList, KeyPath>
+fn rates_where(value: &Value, changes: bool) -> Result<RateList, SlaveFault>
     ensures ok { IfOk result (λ v. rates_where changes (view value.now) ≡ Ok v.items) }
-    ensures err { IfErr result (λ e. rates_where changes (view value.now) ≡ Err e.bytes) }
-    ensures short { IfErr result (λ e. length e.bytes ≤ 20) }
+    ensures err { IfErr result (λ fault. rates_where changes (view value.now) ≡ Err (path_of_slave fault)) }
 {
     if changes {
         rates_of(value)
@@ -199,21 +199,20 @@ fn rates_where(value: &Value, changes: bool) -> Result<RateList, KeyPath>
 }
 
 #[tactic(auto, unfolding(crate::specs::Slaves::times_of))]
-fn times_of(value: &Value, version: u8, cycle_ns: u32, kind: ClockKind) -> Result<Times, KeyPath>
+fn times_of(value: &Value, version: u8, cycle_ns: u32, kind: ClockKind) -> Result<Times, SlaveFault>
     requires { 1 ≤ cycle_ns }
     ensures ok { IfOk result (λ t. times_of version cycle_ns kind (view value.now) ≡ Ok (times_seen t)) }
-    ensures err { IfErr result (λ e. times_of version cycle_ns kind (view value.now) ≡ Err e.bytes) }
-    ensures short { IfErr result (λ e. length e.bytes ≤ 20) }
+    ensures err { IfErr result (λ fault. times_of version cycle_ns kind (view value.now) ≡ Err (path_of_slave fault)) }
 {
     let measures = measures(kind);
-    let start = number_where(value, measures, "start", 0, greatest_start(kind))?;
-    let phase_fs = number_where(value, measures, "phase_fs", 1, 20_000_000)?;
-    let period_fs = number_where(value, measures, "period_fs", 1, 20_000_000)?;
+    let start = number_where(value, measures, Key::Start, 0, greatest_start(kind))?;
+    let phase_fs = number_where(value, measures, Key::PhaseFs, 1, 20_000_000)?;
+    let period_fs = number_where(value, measures, Key::PeriodFs, 1, 20_000_000)?;
     let rates = rates_where(value, changes(version, kind))?;
     let has_clock = has_clock(kind);
     let last_ns = u64::from(cycle_ns - 1);
-    let shift_ns = option_where(value, has_clock, "shift_ns", 0, last_ns)?;
-    let sync1_ns = option_where(value, has_clock, "sync1_ns", 1, last_ns)?;
+    let shift_ns = option_where(value, has_clock, Key::ShiftNs, 0, last_ns)?;
+    let sync1_ns = option_where(value, has_clock, Key::Sync1Ns, 1, last_ns)?;
     Ok(Times {
         start,
         phase_fs,
@@ -226,19 +225,18 @@ fn times_of(value: &Value, version: u8, cycle_ns: u32, kind: ClockKind) -> Resul
 
 /// A slave row of a file of this version and cycle time.
 #[tactic(auto, unfolding(crate::specs::Slaves::slave_of))]
-pub(crate) fn slave_of(value: &Value, version: u8, cycle_ns: u32) -> Result<ShapeRow, KeyPath>
+pub(crate) fn slave_of(value: &Value, version: u8, cycle_ns: u32) -> Result<ShapeRow, SlaveFault>
     requires { 1 ≤ cycle_ns }
     ensures ok { IfOk result (λ r. slave_of version cycle_ns (view value.now) ≡ Ok (row_seen r)) }
-    ensures err { IfErr result (λ e. slave_of version cycle_ns (view value.now) ≡ Err e.bytes) }
-    ensures short { IfErr result (λ e. length e.bytes ≤ 20) }
+    ensures err { IfErr result (λ fault. slave_of version cycle_ns (view value.now) ≡ Err (path_of_slave fault)) }
 {
     let Some(members) = value.as_object() else {
-        return Err(KeyPath::new());
+        return Err(SlaveFault::Own(RowFault::Row));
     };
     let place = place_of(value)?;
     let times = times_of(value, version, cycle_ns, place.kind)?;
     if !are_slave_keys(members, changes(version, place.kind)) {
-        return Err(KeyPath::new());
+        return Err(SlaveFault::Own(RowFault::Row));
     }
     Ok(ShapeRow {
         id: place.id,

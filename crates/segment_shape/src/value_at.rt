@@ -1,10 +1,11 @@
 // What a JSON value has at a key. The error is the key.
 ghost use Rattle.std.specs.Prelude.{◌≡◌, ◌≤◌, IfOk, IfErr, IfSome, length, option_map, Ok, Err, Some, None};
 ghost use Rattle.serde_json.specs.View.{view, items_view};
+ghost use Rattle.segment_shape.specs.KeyNames.{name_of};
 ghost use Rattle.segment_shape.specs.Values.{number_of, number_at, number_where, option_where, number_if_any, lacking, id_of, id_at, items_of, items_at, items_if_any};
 
 use crate::id::{Id, id_text};
-use crate::key_path::{KeyPath, key_path};
+use crate::key::Key;
 use serde_json::Value;
 
 fn number_of(value: &Value, low: u64, high: u64) -> Option<u64>
@@ -19,35 +20,31 @@ fn number_of(value: &Value, low: u64, high: u64) -> Option<u64>
     }
 }
 
-pub(crate) fn number_at(value: &Value, key: &str, low: u64, high: u64) -> Result<u64, KeyPath>
-    requires { length key.now ≤ 10 }
-    ensures ok { IfOk result (λ n. number_at key.now low high (view value.now) ≡ Ok n) }
-    ensures err { IfErr result (λ e. number_at key.now low high (view value.now) ≡ Err e.bytes) }
+pub(crate) fn number_at(value: &Value, key: Key, low: u64, high: u64) -> Result<u64, Key>
+    ensures ok { IfOk result (λ n. number_at (name_of key) low high (view value.now) ≡ Ok n) }
+    ensures err { IfErr result (λ k. number_at (name_of key) low high (view value.now) ≡ Err (name_of k)) }
     ensures within { IfOk result (λ n. (low ≤ n) × (n ≤ high)) }
-    ensures short { IfErr result (λ e. length e.bytes ≤ 10) }
 {
-    let Some(found) = value.get(key) else {
-        return Err(key_path(key));
+    let Some(found) = value.get(key.name()) else {
+        return Err(key);
     };
     match number_of(found, low, high) {
         Some(number) => Ok(number),
-        None => Err(key_path(key)),
+        None => Err(key),
     }
 }
 
-fn number_if_any(value: &Value, key: &str, low: u64, high: u64) -> Result<Option<u64>, KeyPath>
-    requires { length key.now ≤ 10 }
-    ensures ok { IfOk result (λ o. number_if_any key.now low high (view value.now) ≡ Ok o) }
-    ensures err { IfErr result (λ e. number_if_any key.now low high (view value.now) ≡ Err e.bytes) }
+fn number_if_any(value: &Value, key: Key, low: u64, high: u64) -> Result<Option<u64>, Key>
+    ensures ok { IfOk result (λ o. number_if_any (name_of key) low high (view value.now) ≡ Ok o) }
+    ensures err { IfErr result (λ k. number_if_any (name_of key) low high (view value.now) ≡ Err (name_of k)) }
     ensures within { IfOk result (λ o. IfSome o (λ n. (low ≤ n) × (n ≤ high))) }
-    ensures short { IfErr result (λ e. length e.bytes ≤ 10) }
 {
-    let Some(found) = value.get(key) else {
+    let Some(found) = value.get(key.name()) else {
         return Ok(None);
     };
     match number_of(found, low, high) {
         Some(number) => Ok(Some(number)),
-        None => Err(key_path(key)),
+        None => Err(key),
     }
 }
 
@@ -55,22 +52,20 @@ fn number_if_any(value: &Value, key: &str, low: u64, high: u64) -> Result<Option
 pub(crate) fn number_where(
     value: &Value,
     belongs: bool,
-    key: &str,
+    key: Key,
     low: u64,
     high: u64,
-) -> Result<u64, KeyPath>
-    requires { length key.now ≤ 10 }
-    ensures ok { IfOk result (λ n. number_where belongs key.now low high (view value.now) ≡ Ok n) }
-    ensures err { IfErr result (λ e. number_where belongs key.now low high (view value.now) ≡ Err e.bytes) }
+) -> Result<u64, Key>
+    ensures ok { IfOk result (λ n. number_where belongs (name_of key) low high (view value.now) ≡ Ok n) }
+    ensures err { IfErr result (λ k. number_where belongs (name_of key) low high (view value.now) ≡ Err (name_of k)) }
     ensures within { IfOk result (λ n. n ≤ high) }
-    ensures short { IfErr result (λ e. length e.bytes ≤ 10) }
 {
     if belongs {
         return number_at(value, key, low, high);
     }
-    match value.get(key) {
+    match value.get(key.name()) {
         None => Ok(0),
-        Some(_) => Err(key_path(key)),
+        Some(_) => Err(key),
     }
 }
 
@@ -78,22 +73,20 @@ pub(crate) fn number_where(
 pub(crate) fn option_where(
     value: &Value,
     belongs: bool,
-    key: &str,
+    key: Key,
     low: u64,
     high: u64,
-) -> Result<Option<u64>, KeyPath>
-    requires { length key.now ≤ 10 }
-    ensures ok { IfOk result (λ o. option_where belongs key.now low high (view value.now) ≡ Ok o) }
-    ensures err { IfErr result (λ e. option_where belongs key.now low high (view value.now) ≡ Err e.bytes) }
+) -> Result<Option<u64>, Key>
+    ensures ok { IfOk result (λ o. option_where belongs (name_of key) low high (view value.now) ≡ Ok o) }
+    ensures err { IfErr result (λ k. option_where belongs (name_of key) low high (view value.now) ≡ Err (name_of k)) }
     ensures within { IfOk result (λ o. IfSome o (λ n. (low ≤ n) × (n ≤ high))) }
-    ensures short { IfErr result (λ e. length e.bytes ≤ 10) }
 {
     if belongs {
         return number_if_any(value, key, low, high);
     }
-    match value.get(key) {
+    match value.get(key.name()) {
         None => Ok(None),
-        Some(_) => Err(key_path(key)),
+        Some(_) => Err(key),
     }
 }
 
@@ -103,18 +96,16 @@ pub(crate) fn id_of(value: &Value) -> Option<Id>
     id_text(value.as_str()?)
 }
 
-pub(crate) fn id_at(value: &Value, key: &str) -> Result<Id, KeyPath>
-    requires { length key.now ≤ 10 }
-    ensures ok { IfOk result (λ id. id_at key.now (view value.now) ≡ Ok id.bytes) }
-    ensures err { IfErr result (λ e. id_at key.now (view value.now) ≡ Err e.bytes) }
-    ensures short { IfErr result (λ e. length e.bytes ≤ 10) }
+pub(crate) fn id_at(value: &Value, key: Key) -> Result<Id, Key>
+    ensures ok { IfOk result (λ id. id_at (name_of key) (view value.now) ≡ Ok id.bytes) }
+    ensures err { IfErr result (λ k. id_at (name_of key) (view value.now) ≡ Err (name_of k)) }
 {
-    let Some(found) = value.get(key) else {
-        return Err(key_path(key));
+    let Some(found) = value.get(key.name()) else {
+        return Err(key);
     };
     match id_of(found) {
         Some(id) => Ok(id),
-        None => Err(key_path(key)),
+        None => Err(key),
     }
 }
 
@@ -130,38 +121,30 @@ fn items_of(value: &Value, most: usize) -> Option<&[Value]>
     }
 }
 
-pub(crate) fn items_at<'a>(value: &'a Value, key: &str, most: usize) -> Result<&'a [Value], KeyPath>
-    requires { length key.now ≤ 10 }
-    ensures ok { IfOk result (λ items. items_at key.now most (view value.now) ≡ Ok (items_view items.now)) }
-    ensures err { IfErr result (λ e. items_at key.now most (view value.now) ≡ Err e.bytes) }
+pub(crate) fn items_at<'a>(value: &'a Value, key: Key, most: usize) -> Result<&'a [Value], Key>
+    ensures ok { IfOk result (λ items. items_at (name_of key) most (view value.now) ≡ Ok (items_view items.now)) }
+    ensures err { IfErr result (λ k. items_at (name_of key) most (view value.now) ≡ Err (name_of k)) }
     ensures few { IfOk result (λ items. length items.now ≤ most) }
-    ensures short { IfErr result (λ e. length e.bytes ≤ 10) }
 {
-    let Some(found) = value.get(key) else {
-        return Err(key_path(key));
+    let Some(found) = value.get(key.name()) else {
+        return Err(key);
     };
     match items_of(found, most) {
         Some(items) => Ok(items),
-        None => Err(key_path(key)),
+        None => Err(key),
     }
 }
 
-pub(crate) fn items_if_any<'a>(
-    value: &'a Value,
-    key: &str,
-    most: usize,
-) -> Result<&'a [Value], KeyPath>
-    requires { length key.now ≤ 10 }
-    ensures ok { IfOk result (λ items. items_if_any key.now most (view value.now) ≡ Ok (items_view items.now)) }
-    ensures err { IfErr result (λ e. items_if_any key.now most (view value.now) ≡ Err e.bytes) }
+pub(crate) fn items_if_any<'a>(value: &'a Value, key: Key, most: usize) -> Result<&'a [Value], Key>
+    ensures ok { IfOk result (λ items. items_if_any (name_of key) most (view value.now) ≡ Ok (items_view items.now)) }
+    ensures err { IfErr result (λ k. items_if_any (name_of key) most (view value.now) ≡ Err (name_of k)) }
     ensures few { IfOk result (λ items. length items.now ≤ most) }
-    ensures short { IfErr result (λ e. length e.bytes ≤ 10) }
 {
-    let Some(found) = value.get(key) else {
+    let Some(found) = value.get(key.name()) else {
         return Ok(&[]);
     };
     match items_of(found, most) {
         Some(items) => Ok(items),
-        None => Err(key_path(key)),
+        None => Err(key),
     }
 }

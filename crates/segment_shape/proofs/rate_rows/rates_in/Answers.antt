@@ -1,30 +1,18 @@
-use Rattle.std.proofs.Common.{◌∙◌, ◌+◌, ◌^◌, ◌<◌, sym, ap, arith}
+use Rattle.std.proofs.Common.{◌∙◌, ◌+◌, sym, ap, arith, refl}
 use Rattle.std.specs.Prelude.{codes}
 use Rattle.serde_json.specs.View.{view}
-use Rattle.std.proofs.lemmas.List.{length-append}
 use Rattle.segment_shape.specs.Rates.{rate_in, rate_behind, last_tick}
-use Rattle.segment_shape.proofs.PathLemmas.{element_short, dotted_short}
+use Rattle.segment_shape.specs.FaultPaths.{path_of_row}
 use Rattle.segment_shape.proofs.RowLemmas.{rows_kept, rows_refused, rows_end}
 use Rattle.segment_shape.proofs.RateLemmas.{last_tick-push}
 use Rattle.segment_shape.proofs.rate_rows.rates_in.Goals as goal
-
-pub within_element-requires : goal.within_element-requires
-within_element-requires c =
-    let few : c.len.result < 10 ^ 2 = omega (arith, c.len.ensures.value, c.loop-value.invariant.each) in
-    omega (arith, element_short (codes "rates") c.len.result 2 (omega arith) few c.len.type_inv, c.in-Err.ensures.short)
 
 pub returns-in-Err-clause-err : goal.returns-in-Err-clause-err
 returns-in-Err-clause-err c =
     let behind = ap (λ tick. rate_behind tick (view c.value-item.result)) (sym c.loop-value.invariant.last) ∙ c.in-Err.ensures.err in
     sym c.loop-value.invariant.rows
-    ∙ rows_refused (codes "rates") rate_in c.loop-value.rates.items c.args.values.now c.loop-value.value-index c.value-item.result c.in-Err.path.bytes c.len.result
-    c.within_element.result.bytes c.loop-value-test.true c.value-item.is behind c.len.ensures.value c.within_element.ensures
-
-pub returns-in-Err-clause-short : goal.returns-in-Err-clause-short
-returns-in-Err-clause-short c =
-    let few : c.len.result < 10 ^ 2 = omega (arith, c.len.ensures.value, c.loop-value.invariant.each) in
-    simp (c.within_element.ensures, length-append)
-    (omega (arith, element_short (codes "rates") c.len.result 2 (omega arith) few c.len.type_inv, dotted_short c.in-Err.path.bytes, c.in-Err.ensures.short))
+    ∙ rows_refused (codes "rates") rate_in c.loop-value.rates.items c.args.values.now c.loop-value.value-index c.value-item.result (path_of_row c.in-Err.fault) c.len.result _
+    c.loop-value-test.true c.value-item.is behind c.len.ensures.value refl
 
 pub loop-value-preserved : goal.loop-value-preserved
 loop-value-preserved c =

@@ -1,21 +1,16 @@
-use Rattle.std.proofs.Common.{◌∙◌, ◌^◌, ◌<◌, sym, arith}
+use Rattle.std.proofs.Common.{◌∙◌, sym, arith}
 use Rattle.std.specs.Prelude.{codes}
 use Rattle.std.proofs.lemmas.List.{length-append}
+use Rattle.segment_shape.specs.FaultPaths.{path_of_row}
 use Rattle.segment_shape.specs.Losses.{loss_in}
-use Rattle.segment_shape.proofs.PathLemmas.{element_short}
 use Rattle.segment_shape.proofs.RowLemmas.{rows_kept, rows_refused, rows_end}
 use Rattle.segment_shape.proofs.shape.losses_in.Goals as goal
-
-pub within_element-requires : goal.within_element-requires
-within_element-requires c =
-    let few : c.len.result < 10 ^ 4 = omega arith in
-    omega (arith, element_short (codes "losses") c.len.result 4 (omega arith) few c.len.type_inv, c.in-Err.ensures.short)
 
 pub returns-in-Err-clause-err : goal.returns-in-Err-clause-err
 returns-in-Err-clause-err c =
     sym c.loop-value.invariant.rows
-    ∙ rows_refused (codes "losses") (loss_in c.args.slaves) c.loop-value.losses c.args.values.now c.loop-value.value-index c.value-item.result c.in-Err.path.bytes c.len.result
-    c.within_element.result.bytes c.loop-value-test.true c.value-item.is c.in-Err.ensures.err c.len.ensures c.within_element.ensures
+    ∙ rows_refused (codes "losses") (loss_in c.args.slaves) c.loop-value.losses c.args.values.now c.loop-value.value-index c.value-item.result (path_of_row c.in-Err.fault) c.len.result
+    c.loss_path.result.bytes c.loop-value-test.true c.value-item.is c.in-Err.ensures.err c.len.ensures c.loss_path.ensures
 
 pub loop-value-preserved : goal.loop-value-preserved
 loop-value-preserved c = record {

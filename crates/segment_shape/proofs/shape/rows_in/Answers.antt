@@ -1,24 +1,19 @@
-use Rattle.std.proofs.Common.{◌≡◌, ◌∙◌, ◌++◌, ◌∷◌, ◌^◌, ◌<◌, [], sym, map, length, arith}
+use Rattle.std.proofs.Common.{◌≡◌, ◌∙◌, ◌++◌, ◌∷◌, [], sym, map, length, arith}
 use Rattle.std.specs.Prelude.{codes}
 use Rattle.std.proofs.lemmas.List.{length-append, length-map, map-append}
+use Rattle.segment_shape.specs.FaultPaths.{path_of_slave}
 use Rattle.segment_shape.specs.Slaves.{slave_in}
 use Rattle.segment_shape.specs.Seen.{row_seen}
-use Rattle.segment_shape.proofs.PathLemmas.{element_short}
 use Rattle.segment_shape.proofs.RowLemmas.{rows_kept, rows_refused, rows_end}
 use Rattle.segment_shape.proofs.shape.rows_in.Goals as goal
-
-pub within_element-requires : goal.within_element-requires
-within_element-requires c =
-    let few : c.len.result < 10 ^ 3 = omega arith in
-    omega (arith, element_short (codes "slaves") c.len.result 3 (omega arith) few c.len.type_inv, c.in-Err.ensures.short)
 
 pub returns-in-Err-clause-err : goal.returns-in-Err-clause-err
 returns-in-Err-clause-err c =
     let read = slave_in c.args.head.version c.args.head.cycle_ns in
     let places : c.len.result ≡ length c.loop-value.rows.items = omega arith in
     sym c.loop-value.invariant.rows
-    ∙ rows_refused (codes "slaves") read (map row_seen c.loop-value.rows.items) c.args.values.now c.loop-value.value-index c.value-item.result c.in-Err.path.bytes c.len.result
-    c.within_element.result.bytes c.loop-value-test.true c.value-item.is c.in-Err.ensures.err (places ∙ sym (length-map c.loop-value.rows.items row_seen)) c.within_element.ensures
+    ∙ rows_refused (codes "slaves") read (map row_seen c.loop-value.rows.items) c.args.values.now c.loop-value.value-index c.value-item.result (path_of_slave c.in-Err.fault) c.len.result
+    c.slave_path.result.bytes c.loop-value-test.true c.value-item.is c.in-Err.ensures.err (places ∙ sym (length-map c.loop-value.rows.items row_seen)) c.slave_path.ensures
 
 pub loop-value-preserved : goal.loop-value-preserved
 loop-value-preserved c =

@@ -1,8 +1,0 @@
-use Rattle.std.proofs.Common.{◌∙◌, ap, map}
-use Rattle.serde_json.specs.View.{members_view}
-use Rattle.segment_shape.specs.Keys.{are_among, head_keys}
-use Rattle.segment_shape.proofs.known_keys.are_head_keys.Goals as goal
-
-pub returns : goal.returns
-unfolding head_keys
-returns c = c.are_among.ensures ∙ ap (λ keys. are_among (map (λ k. k.now) keys) (members_view c.args.members.now.entries)) c.as_slice.ensures
