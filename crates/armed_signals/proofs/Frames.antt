@@ -1,7 +1,6 @@
 -- Mindful and planned frames keep the slaves to the signals of their positions.
 use Rattle.std.proofs.Common.{◌≡◌, ℕ, ◌+◌, ◌<◌, List, [], ◌∷◌, length, Option, Some, Bool, false, nat_lt, sym, subst, ◌∙◌, arith, inl, inr}
 use Rattle.std.specs.Prelude.{slice_get, ◌&&◌}
-use Rattle.std.specs.List.{AllByRecursion}
 use Rattle.std.proofs.lemmas.Bool.{cases_lt}
 use Rattle.std.proofs.lemmas.Bool.Decides.{nat_tests}
 use Rattle.ecat_frame.specs.FrameGrammar.{DatagramValue, FrameValue}
@@ -12,11 +11,11 @@ use Rattle.sync_units.specs.declared.edge.Signal.TheVariants.{Sync0, Sync1}
 use Rattle.frame_pass.specs.SlaveState.{Slave}
 use Rattle.frame_pass.specs.DatagramAtSlave.{slave_after}
 use Rattle.frame_pass.specs.FramePass.{are_latching, at_arrival, datagrams_behind, end_of, slave_behind, slave_passed}
-use Rattle.frame_pass.specs.Invariants.{IsSound, IsSoundSegment}
+use Rattle.frame_pass.specs.Invariants.{IsSoundSegment}
 use Rattle.frame_pass.specs.Reach.{reach_of}
 use Rattle.frame_pass.specs.SegmentState.{SegmentState, leaves_at, segment_step}
 use Rattle.frame_pass.proofs.Exported.{step_reached, step_stays, is_not_sent}
-use Rattle.visit_laws.specs.Aside.{HaveSize}
+use Rattle.visit_laws.proofs.Exported.{sizes_of}
 use Rattle.named_slaves.specs.Standing.{Stands}
 use Rattle.named_slaves.specs.Mindful.{AreMindful}
 use Rattle.named_slaves.proofs.Exported.{stands_after, had_before, low_where, mindful_at, same_many, stands_at}
@@ -49,10 +48,6 @@ module _ (k : ClockKind) (status q : ℕ) (low : q < 256) (sync1 : ℕ → Bool)
 
 none_named : (q : ℕ) → nat_lt q 0 ≡ false
 none_named q = grind (arith, nat_tests)
-
-sizes_of : (trip limit : ℕ) (ss : List Slave) → AllByRecursion (IsSound trip limit) ss → HaveSize ss
-sizes_of trip limit [] sound = tt
-sizes_of trip limit (s ∷ ss) sound = (sound.0.size, sizes_of trip limit ss sound.1)
 
 -- all slaves
 module _ (kinds : ℕ → ClockKind) (statuses : ℕ → ℕ) (n : ℕ) (sync1 : ℕ → Bool) (own : ℕ → Signal → Bool) (first : (q : ℕ) → own q Sync0 ≡ has_clock (kinds q)) (second : (q : ℕ) → q < n → own q Sync1 ≡ (has_clock (kinds q) && sync1 q)) where

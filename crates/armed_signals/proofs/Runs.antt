@@ -27,11 +27,11 @@ use Rattle.master_script.proofs.Exported.{wants, StepWithin}
 use Rattle.honest_replies.specs.Told.{AreInOrder, IsNear}
 use Rattle.honest_replies.proofs.Exported.{mindful_step}
 use Rattle.segment_file.specs.Legal.{IsLegal}
-use Rattle.segment_file.specs.Segment.{RowValue, SegmentValue, tree_rows}
+use Rattle.segment_file.specs.Segment.{RowValue, SegmentValue, row_of, tree_rows}
 use Rattle.segment_file.proofs.Exported.{order_many}
 use Rattle.segment_start.specs.Start.{slave_of, started_segment, timing_by}
 use Rattle.segment_start.proofs.Exported.{starts_timely}
-use Rattle.run_of_file.specs.MasterOfFile.{master_of, plan_of, row_of}
+use Rattle.run_of_file.specs.MasterOfFile.{master_of, plan_of}
 use Rattle.run_of_file.specs.RunOfFile.{RunEnd, armed, commissioned, end_of_run, frames_given, ran, rounded_off, run_of, settled}
 use Rattle.run_of_file.proofs.Exported.{armed_on, commissioned_on, ran_on, settled_on, IsFromStart, armed_from, commissioned_from, ran_from}
 use Rattle.run_of_file.proofs.Exported.{settled_from, as_many_kinds, few_rows, some_rows}

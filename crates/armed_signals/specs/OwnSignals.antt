@@ -6,9 +6,7 @@ use Rattle.sync_units.specs.declared.edge.Signal.{Signal}
 use Rattle.sync_units.specs.declared.edge.Signal.TheVariants.{Sync0, Sync1}
 use Rattle.sync_units.specs.SyncRule.{Armed}
 use Rattle.frame_pass.specs.SlaveState.{Slave, Timing}
-use Rattle.segment_file.specs.Segment.{RowValue, SegmentValue, is_clock}
-use Rattle.run_of_file.specs.MasterOfFile.{row_of}
-use Rattle.honest_runs.specs.FileSlaves.{row_at}
+use Rattle.segment_file.specs.Segment.{RowValue, SegmentValue, is_clock, row_at, row_of}
 
 -- a clock has SYNC0, and SYNC1 where the file gives its time
 abbrev pub has_signal : RowValue → Signal → Bool

@@ -77,7 +77,7 @@ child_leads : (rows : List Row) (s r : ℕ) (a : Above) → above rows r ≡ Som
 unfolding LeadsToRoot
 child_leads rows s r a e h = rw e h
 
-parent_leads : (rows : List Row) (s r : ℕ) (a : Above) → above rows r ≡ Some a → LeadsToRoot rows (suc s) r → LeadsToRoot rows s a.row
+pub parent_leads : (rows : List Row) (s r : ℕ) (a : Above) → above rows r ≡ Some a → LeadsToRoot rows (suc s) r → LeadsToRoot rows s a.row
 unfolding LeadsToRoot
 parent_leads rows s r a e h = subst (λ o. MatchOption o (Unit {0}) (λ (x : Above). LeadsToRoot rows s x.row)) e h
 

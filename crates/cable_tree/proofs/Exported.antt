@@ -6,6 +6,9 @@ pub use Rattle.cable_tree.proofs.Children.{at_spot, at_same, child_hangs, child_
 -- How deep a tree is: one level more than there are changes nothing, and n rows have at most n.
 pub use Rattle.cable_tree.proofs.Levels.{none_some, some_same, tree_induction, subtree_is, span_is, arrive_at_child}
 
+-- A parent leads to the root in one step less.
+pub use Rattle.cable_tree.proofs.Checked.{parent_leads, leads_nowhere}
+
 -- Arrivals rise along the frame order, and stay inside the round trip.
 pub use Rattle.cable_tree.proofs.Rising.{tp_some, subtree_few, order_pair, order_once, order_within}
 

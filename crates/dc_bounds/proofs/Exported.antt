@@ -6,8 +6,8 @@ pub use Rattle.dc_bounds.proofs.IntervalFacts.{ticks_in_interval}
 -- How the bounds grow.
 pub use Rattle.dc_bounds.proofs.Growth.{tick_gap_rises, jump_rises, tick_gap_near, quarter}
 
--- Steps towards the root: to the parent, and to the measuring parent.
-pub use Rattle.dc_bounds.proofs.Upwards.{lower_above, none_leads, some_same, parent_measures, parent_within, lower_measuring}
+-- Steps towards the root, to the measuring parent.
+pub use Rattle.dc_bounds.proofs.Upwards.{parent_measures, parent_within, lower_measuring}
 
 -- The rows in frame order have the measuring parents, weights and reference of the rows of the file.
 pub use Rattle.dc_bounds.proofs.ByPosition.{reference_here, unmeasurable_here, find_low, weight_here}

@@ -4,16 +4,8 @@ use Rattle.std.proofs.Common.{refl, sym, ◌∙◌, subst}
 use Rattle.cable_tree.specs.declared.port.Above.{Above}
 use Rattle.cable_tree.specs.Row.{Row, above}
 use Rattle.cable_tree.specs.Segment.{IsTree, LeadsToRoot}
+use Rattle.cable_tree.proofs.Exported.{leads_nowhere, parent_leads, some_same}
 use Rattle.dc_bounds.specs.Weight.{measuring_step, measuring_within}
-
--- a parent leads to the root in one step less
-pub lower_above : (rows : List Row) (s r : ℕ) (a : Above) → above rows r ≡ Some a → LeadsToRoot rows (suc s) r → LeadsToRoot rows s a.row
-unfolding LeadsToRoot
-lower_above rows s r a up leads = subst (λ o. MatchOption o (Unit {0}) (λ b. LeadsToRoot rows s b.row)) up leads
-
-pub none_leads : (rows : List Row) (r : ℕ) → LeadsToRoot rows 0 r → ⊥
-unfolding LeadsToRoot
-none_leads rows r leads = leads
 
 all_more : (o : Option Above) (P Q : Above → Type 0) → ((a : Above) → P a → Q a) → MatchOption o (Unit {0}) P → MatchOption o (Unit {0}) Q
 all_more None P Q more h = tt
@@ -23,9 +15,6 @@ leads_more : (rows : List Row) (s r : ℕ) → LeadsToRoot rows s r → LeadsToR
 unfolding LeadsToRoot
 leads_more rows zero r leads = absurd leads
 leads_more rows (suc s) r leads = all_more (above rows r) (λ a. LeadsToRoot rows s a.row) (λ a. LeadsToRoot rows (suc s) a.row) (λ a. leads_more rows s a.row) leads
-
-pub some_same : {A : Type 0} {x y : A} → Some x ≡ Some y → x ≡ y
-some_same e = cc
 
 -- what holds of the slave that a search finds above one
 module _ (rows : List Row) (measures : ℕ → Bool) (P : ℕ → Above → Type 0)
@@ -60,9 +49,9 @@ parent_within rows measures tree steps r a within found =
 pub lower_measuring : (rows : List Row) (measures : ℕ → Bool) (steps s r : ℕ) (a : Above) → measuring_within rows measures steps r ≡ Some a → LeadsToRoot rows (suc s) r → LeadsToRoot rows s a.row
 lower_measuring rows measures steps s r a found =
     found_above rows measures (λ r a. (s : ℕ) → LeadsToRoot rows (suc s) r → LeadsToRoot rows s a.row)
-    (λ r b up e s leads. lower_above rows s r b up leads)
-    (λ r b a up e h s leads. deeper b a h s (lower_above rows s r b up leads)) steps r a found s
+    (λ r b up e s leads. parent_leads rows s r b up leads)
+    (λ r b a up e h s leads. deeper b a h s (parent_leads rows s r b up leads)) steps r a found s
   where
     deeper : (b a : Above) → ((s : ℕ) → LeadsToRoot rows (suc s) b.row → LeadsToRoot rows s a.row) → (s : ℕ) → LeadsToRoot rows s b.row → LeadsToRoot rows s a.row
-    deeper b a h zero leads = absurd (none_leads rows b.row leads)
+    deeper b a h zero leads = absurd (leads_nowhere rows b.row leads)
     deeper b a h (suc s) leads = leads_more rows s a.row (h s leads)

@@ -4,9 +4,10 @@ use Rattle.std.proofs.Common.{arith, refl}
 use Rattle.cable_tree.specs.declared.port.Above.{Above}
 use Rattle.cable_tree.specs.Row.{Row}
 use Rattle.cable_tree.specs.Segment.{IsSegment, IsTree, LeadsToRoot}
+use Rattle.cable_tree.proofs.Exported.{leads_nowhere}
 use Rattle.dc_bounds.specs.Weight.{measuring_parent, has_earlier, has_later, hop_weight, hops_step, hops_within, is_leaf, weight_below, weight_to, weight, meeting, reference}
 use Rattle.dc_bounds.proofs.FirstClock.{reference_within}
-use Rattle.dc_bounds.proofs.Upwards.{lower_measuring, none_leads}
+use Rattle.dc_bounds.proofs.Upwards.{lower_measuring}
 
 hop_few : (rows : List Row) (a : Above) → hop_weight rows a ≤ 2
 hop_few rows a = at_most (has_earlier rows a) (has_later rows a)
@@ -28,7 +29,7 @@ unfolding hops_within
 hops_few rows measures c zero s r leads = omega arith
 hops_few rows measures c (suc k) zero r leads =
     by_parent rows (measuring_parent rows measures r) (nat_eq r c) 0 (hops_within rows measures c k)
-    (λ a up. absurd (none_leads rows a.row (lower_measuring rows measures (length rows) 0 r a up leads)))
+    (λ a up. absurd (leads_nowhere rows a.row (lower_measuring rows measures (length rows) 0 r a up leads)))
 hops_few rows measures c (suc k) (suc s) r leads =
     by_parent rows (measuring_parent rows measures r) (nat_eq r c) (2 * suc s) (hops_within rows measures c k)
     (λ a up. let rest = hops_few rows measures c k s a.row (lower_measuring rows measures (length rows) (suc s) r a up leads) in omega (arith, rest))

@@ -4,10 +4,11 @@ use Rattle.std.proofs.Common.{refl, sym, ap, ◌∙◌}
 use Rattle.cable_tree.specs.declared.port.Above.{Above}
 use Rattle.cable_tree.specs.Row.{Row, above}
 use Rattle.cable_tree.specs.Segment.{IsTree, LeadsToRoot}
+use Rattle.cable_tree.proofs.Exported.{leads_nowhere, parent_leads}
 use Rattle.dc_bounds.specs.Weight.{measuring_step, measuring_within, measuring_parent, hop_weight, hops_step, hops_within, is_over_step, is_over, is_over_within, meeting_step, meeting_within}
 use Rattle.dc_bounds.specs.Measurable.{branches, is_measured_step, is_measured_within, is_measurable}
 use Rattle.dc_delay.specs.MeasuredDelay.{passed_step, passed_within, summed_step, summed_within}
-use Rattle.dc_bounds.proofs.Exported.{lower_above, lower_measuring, none_leads, parent_within}
+use Rattle.dc_bounds.proofs.Exported.{lower_measuring, parent_within}
 
 -- climbing by some parent of each row
 module _ (rows : List Row) (parent : ℕ → Option Above)
@@ -16,7 +17,7 @@ module _ (rows : List Row) (parent : ℕ → Option Above)
   induct : (inside : (r : ℕ) (a : Above) → r < length rows → parent r ≡ Some a → a.row < length rows)
       → (P : ℕ → Type 0) → ((r : ℕ) → r < length rows → ((a : Above) → parent r ≡ Some a → P a.row) → P r)
       → (s r : ℕ) → r < length rows → LeadsToRoot rows s r → P r
-  induct inside P step zero r within leads = absurd (none_leads rows r leads)
+  induct inside P step zero r within leads = absurd (leads_nowhere rows r leads)
   induct inside P step (suc s) r within leads =
       step r within (λ a e. induct inside P step s a.row (inside r a within e) (lower s r a e leads))
 
@@ -29,38 +30,38 @@ module _ (rows : List Row) (parent : ℕ → Option Above)
     same r g h (Some a) e known = some r g h a (known a e)
 
     more : (s r : ℕ) → LeadsToRoot rows s r → f (suc s) r ≡ f s r
-    more zero r leads = absurd (none_leads rows r leads)
+    more zero r leads = absurd (leads_nowhere rows r leads)
     more (suc s) r leads =
         is (suc s) r ∙ same r (f (suc s)) (f s) (parent r) refl (λ a e. more s a.row (lower s r a e leads)) ∙ sym (is s r)
 
     at : (n r : ℕ) → LeadsToRoot rows n r → f n r ≡ step r (f n) (parent r)
-    at zero r leads = absurd (none_leads rows r leads)
+    at zero r leads = absurd (leads_nowhere rows r leads)
     at (suc s) r leads =
         is s r ∙ same r (f s) (f (suc s)) (parent r) refl (λ a e. sym (more s a.row (lower s r a e leads)))
 
 -- the recursions over the rows above
 module _ (rows : List Row) (tree : IsTree rows) where
   pub climb_above : (P : ℕ → Type 0) → ((r : ℕ) → r < length rows → ((a : Above) → above rows r ≡ Some a → P a.row) → P r) → (r : ℕ) → r < length rows → P r
-  climb_above P step r within = induct rows (above rows) (lower_above rows) (λ r a w e. tree.parents r a w e) P step (length rows) r within (tree.leads r within)
+  climb_above P step r within = induct rows (above rows) (parent_leads rows) (λ r a w e. tree.parents r a w e) P step (length rows) r within (tree.leads r within)
 
   module _ (measures : ℕ → Bool) where
     pub measuring_is : (r : ℕ) → r < length rows → measuring_parent rows measures r ≡ measuring_step measures (measuring_parent rows measures) (above rows r)
     unfolding measuring_within
     measuring_is r within =
-        at rows (above rows) (lower_above rows) (Option Above) (measuring_within rows measures) (λ r g o. measuring_step measures g o)
+        at rows (above rows) (parent_leads rows) (Option Above) (measuring_within rows measures) (λ r g o. measuring_step measures g o)
         (λ n r. refl) (λ r g h. refl) (λ r g h a e. ap (λ x. if measures a.row then Some a else x) e) (length rows) r (tree.leads r within)
 
     pub passed_is : (number : ℕ → ℕ) (r : ℕ) → r < length rows
         → passed_within rows measures number (length rows) r ≡ passed_step measures number (passed_within rows measures number (length rows)) (above rows r)
     unfolding passed_within
     passed_is number r within =
-        at rows (above rows) (lower_above rows) ℕ (passed_within rows measures number) (λ r g o. passed_step measures number g o)
+        at rows (above rows) (parent_leads rows) ℕ (passed_within rows measures number) (λ r g o. passed_step measures number g o)
         (λ n r. refl) (λ r g h. refl) (λ r g h a e. ap (λ x. if measures a.row then 0 else number a.row + x) e) (length rows) r (tree.leads r within)
 
     pub measured_is : (r : ℕ) → r < length rows → is_measurable rows measures r ≡ is_measured_step measures (branches rows) (is_measurable rows measures) (above rows r)
     unfolding is_measured_within
     measured_is r within =
-        at rows (above rows) (lower_above rows) Bool (is_measured_within rows measures) (λ r g o. is_measured_step measures (branches rows) g o)
+        at rows (above rows) (parent_leads rows) Bool (is_measured_within rows measures) (λ r g o. is_measured_step measures (branches rows) g o)
         (λ n r. refl) (λ r g h. refl) (λ r g h a e. ap (λ x. measures a.row || (not (branches rows a.row) && x)) e) (length rows) r (tree.leads r within)
 
     -- and over the measuring slaves above

@@ -11,12 +11,11 @@ use Rattle.cable_tree.specs.Segment.{IsTree}
 use Rattle.cable_tree.specs.FrameOrder.{child}
 use Rattle.cable_tree.specs.PathSums.{arrive, span}
 use Rattle.cable_tree.specs.Hops.{previous, lap, lap_before, forwarding}
-use Rattle.cable_tree.proofs.Exported.{child_is, hop_place, pass_step}
+use Rattle.cable_tree.proofs.Exported.{some_same, child_is, hop_place, pass_step}
 use Rattle.dc_bounds.specs.Weight.{is_connected, measuring_step, measuring_parent}
 use Rattle.dc_bounds.specs.Measurable.{branches, is_measured_step, is_measurable}
 use Rattle.dc_delay.specs.ShapeRows.{tp_ns, tf_ns}
 use Rattle.dc_delay.specs.MeasuredDelay.{passed_step, passed}
-use Rattle.dc_bounds.proofs.Exported.{some_same}
 use Rattle.dc_delay.proofs.Recursions.{climb_above, measuring_is, passed_is, measured_is}
 
 -- at most one of three

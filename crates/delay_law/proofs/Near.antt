@@ -25,11 +25,9 @@ use Rattle.esc_regs.specs.declared.clock_kind.ClockKind.{ClockKind}
 use Rattle.esc_regs.specs.declared.clock_kind.ClockKind.TheVariants as kind
 use Rattle.segment_bounds.specs.Bounds.{delay_at, delay_bound_at}
 use Rattle.segment_file.specs.Legal.{IsLegal}
-use Rattle.segment_file.specs.Segment.{RowValue, SegmentValue, clock_at, is_clock as is_clock_row, is_measuring as is_measuring_row, measures_at, reference_row, tree_row, tree_rows}
-use Rattle.segment_file.proofs.Exported.{legal_measurable, legal_reference, legal_round_trip, order_many, row_within}
+use Rattle.segment_file.specs.Segment.{RowValue, SegmentValue, clock_at, is_clock as is_clock_row, is_measuring as is_measuring_row, measures_at, no_row, reference_row, row_at, row_of, tree_row, tree_rows}
+use Rattle.segment_file.proofs.Exported.{legal_measurable, legal_reference, legal_round_trip, order_many, row_within, rows_many}
 use Rattle.segment_shape.specs.Slaves.{has_clock, measures}
-use Rattle.segment_start.specs.Start.{no_row}
-use Rattle.segment_start.proofs.Exported.{rows_many}
 use Rattle.tree_status.specs.Status.{status_of, statuses}
 use Rattle.tree_status.proofs.Exported.{listed}
 use Rattle.master_script.specs.Kept.{has_delays, kept_after}
@@ -40,9 +38,9 @@ use Rattle.master_script.specs.Words.{Words, delays_of, hung_of, hung_or_none}
 use Rattle.master_script.proofs.Exported.{tree_listed, tree_refused}
 use Rattle.honest_replies.specs.Told.{word_of, words_of}
 use Rattle.honest_replies.proofs.Exported.{clock_word, flagged}
-use Rattle.honest_runs.specs.FileSlaves.{kind_at, row_at, status_at}
+use Rattle.honest_runs.specs.FileSlaves.{kind_at, status_at}
 use Rattle.honest_runs.proofs.Exported.{delays_there, row_has}
-use Rattle.run_of_file.specs.MasterOfFile.{kind_of, master_of, row_of}
+use Rattle.run_of_file.specs.MasterOfFile.{kind_of, master_of}
 use Rattle.run_of_file.specs.RunOfFile.{RunEnd, commissioned, master_after}
 use Rattle.delay_law.specs.NearDelays.{AreNear}
 use Rattle.latch_times.specs.ToldTimes.{AreTold}

@@ -21,14 +21,13 @@ use Rattle.frame_pass.specs.SlaveState.{width}
 use Rattle.local_clock.specs.Reading.{Clock, advanced}
 use Rattle.osc_clock.specs.Ticks.{IsRunning}
 use Rattle.segment_file.specs.Legal.{IsLegal}
-use Rattle.segment_file.specs.Segment.{RowValue, SegmentValue, measures_at, oscillator, tree_rows}
+use Rattle.segment_file.specs.Segment.{RowValue, SegmentValue, measures_at, oscillator, row_at, tree_rows}
+use Rattle.segment_file.proofs.Exported.{rows_many}
 use Rattle.segment_shape.specs.Slaves.{measures}
-use Rattle.segment_start.proofs.Exported.{rows_many}
-use Rattle.honest_runs.specs.FileSlaves.{row_at}
 use Rattle.honest_runs.proofs.Exported.{row_has}
-use Rattle.latch_times.specs.Resting.{row_there, shown_at}
+use Rattle.resting_clocks.specs.Resting.{row_there, shown_at}
 use Rattle.latch_times.specs.ToldTimes.{AreTold, TellsTimes}
-use Rattle.latch_times.proofs.Exported.{keeps_there, Counts, counts_on}
+use Rattle.resting_clocks.proofs.Exported.{keeps_there, Counts, counts_on}
 
 wide : (k : ClockKind) → 32 ≤ width k
 unfolding width

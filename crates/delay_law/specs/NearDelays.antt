@@ -2,8 +2,7 @@
 use Rattle.std.specs.Prelude.{◌≡◌, ℕ, ◌*◌, ◌<◌, List, Option, Some, None, length, slice_index_or}
 use Rattle.dc_bounds.specs.TickFacts.{IsNear}
 use Rattle.segment_bounds.specs.Bounds.{delay_at, delay_bound_at}
-use Rattle.segment_file.specs.Segment.{SegmentValue}
-use Rattle.honest_runs.specs.FileSlaves.{row_at}
+use Rattle.segment_file.specs.Segment.{SegmentValue, row_at}
 
 -- |1,000,000·delay - D| ≤ B at each position that has a delay (ns), where D and B are those of the slave there (fs)
 abbrev pub AreNear : SegmentValue → List (Option ℕ) → Type 0

@@ -7,7 +7,7 @@ use Rattle.drift_receipts.specs.Receipts.{IsDriftFrame, IsReference, brought, co
 use Rattle.drift_receipts.proofs.AtSlaves.{clock_receives, other_rests, received_at, reference_rests, word_at}
 use Rattle.drift_receipts.proofs.First.{behind_reference, reference_clock}
 use Rattle.drift_receipts.proofs.States.{clock_there, drifting, leaves, orderly, reaches}
-use Rattle.drift_writes.proofs.Exported.{sizes_of, sound_there}
+use Rattle.visit_laws.proofs.Exported.{sizes_of, sound_at}
 use Rattle.ecat_link.specs.Exchanges.{Exchange}
 use Rattle.frame_pass.specs.Advancing.{measuring_at}
 use Rattle.frame_pass.specs.ClockHistory.{events_passed}
@@ -81,7 +81,7 @@ module _ (s : SegmentValue) (legal : IsLegal s) (k : ℕ) (t : SegmentState) (e 
       let own = reference_clock s legal r reference in
       let m = clock_there s legal k t e f p v is clock in
       let n = clock_there s legal k t e f r w at_r own in
-      let time = time_by t.free v.timing m.0 m.1 (sound_there t.round_trip t.free t.slaves p v o.sound is).time in
+      let time = time_by t.free v.timing m.0 m.1 (sound_at t.round_trip t.free t.slaves p v o.sound is).time in
       let late : t.free ≤ sent = omega arith in
       clock_receives (kind_at s) (status_at s) _ sent t.slaves o.are (sizes_of t.round_trip t.free t.slaves o.sound) r e.sent.datagrams (drifting s legal k t e f r reference) p v w m.0 n.0 low clock
       own is m.1 (omega (arith, time, late)) at_r n.1

@@ -22,7 +22,7 @@ use Rattle.frame_pass.specs.SlaveState.{FixedPart, Slave, Timing, fixed_part}
 use Rattle.frame_pass.proofs.Exported.{same_step, timely_step}
 use Rattle.honest_replies.specs.Told.{AreInOrder, IsNear}
 use Rattle.honest_replies.proofs.Exported.{mindful_step}
-use Rattle.honest_runs.specs.FileSlaves.{kind_at, row_at, status_at}
+use Rattle.honest_runs.specs.FileSlaves.{kind_at, status_at}
 use Rattle.honest_runs.proofs.Exported.{commissioned_late, order_stays, sent_by}
 use Rattle.master_script.specs.Config.{ConfigValue}
 use Rattle.master_script.specs.Kept.{kept_after}
@@ -42,14 +42,14 @@ use Rattle.run_of_file.proofs.Exported.{commissioned_on, commissioned_from, kept
 use Rattle.run_numbers.specs.OnTheWay.{StandsAfter}
 use Rattle.run_numbers.proofs.Exported.{master_frame_ns, some_kinds, stands_after}
 use Rattle.segment_file.specs.Legal.{IsLegal}
-use Rattle.segment_file.specs.Segment.{RowValue, SegmentValue, tree_rows}
+use Rattle.segment_file.specs.Segment.{RowValue, SegmentValue, no_row, row_at, tree_rows}
 use Rattle.segment_file.proofs.Exported.{legal_reference}
 use Rattle.segment_shape.specs.Losses.{loss_at}
 use Rattle.segment_shape.specs.Slaves.{has_clock}
 use Rattle.segment_shape.specs.declared.loss_row.LossRow.{LossRow}
 use Rattle.segment_shape.specs.declared.loss_row.Phase.{Phase}
 use Rattle.segment_shape.specs.declared.loss_row.Phase.TheVariants as phase
-use Rattle.segment_start.specs.Start.{no_row, slave_of, started_segment, timing_by}
+use Rattle.segment_start.specs.Start.{slave_of, started_segment, timing_by}
 use Rattle.segment_start.proofs.Exported.{stands_at}
 
 some_same : {X : Type 0} {x y : X} → Some x ≡ Some y → x ≡ y

@@ -7,7 +7,7 @@ pub use Rattle.drift_writes.proofs.Frames.{offset_untouched, delay_untouched}
 pub use Rattle.drift_writes.proofs.OnTheWay.{datagrams_none, left_none}
 
 -- A frame that does not write a place leaves of the slaves what only such a write changes.
-pub use Rattle.drift_writes.proofs.Slaves.{sound_there, sizes_of, plain_held}
+pub use Rattle.drift_writes.proofs.Slaves.{plain_held}
 
 -- Behind commissioning the slaves hold what they held.
 pub use Rattle.drift_writes.proofs.Runs.{settled_holds, armed_holds, ran_holds}

@@ -1,6 +1,5 @@
 -- A frame that does not write a place leaves of the slaves what only such a write changes.
-use Rattle.std.proofs.Common.{◌≡◌, ℕ, zero, suc, ◌+◌, List, [], ◌∷◌, map, Option, Some, inl, inr, ap, ap₂, subst, ◌∙◌, arith, refl}
-use Rattle.std.specs.Prelude.{slice_get}
+use Rattle.std.proofs.Common.{◌≡◌, ℕ, zero, suc, ◌+◌, List, [], ◌∷◌, map, Option, Some, inl, inr, ap, ap₂, ◌∙◌, arith, refl}
 use Rattle.std.specs.List.{AllByRecursion}
 use Rattle.std.proofs.lemmas.Bool.{cases_lt}
 use Rattle.drift_writes.specs.Untouched.{WriteNone, ticks_to_correction}
@@ -18,20 +17,10 @@ use Rattle.frame_pass.specs.SlaveState.{Slave, holds}
 use Rattle.frame_pass.proofs.Exported.{step_slaves, left_passed, plain_time, is_not_sent, HasSize, timely_leaving, timely_step}
 use Rattle.visit_laws.specs.Aside.{HaveSize}
 use Rattle.visit_laws.specs.ReceiveTimes.{IsReceiveTime}
-use Rattle.visit_laws.proofs.Exported.{never_latching, size_advanced, times_left, quiet_passed}
+use Rattle.visit_laws.proofs.Exported.{never_latching, sizes_of, size_advanced, times_left, quiet_passed}
 
 some_same : {X : Type 0} {x y : X} → Some x ≡ Some y → x ≡ y
 some_same e = cc
-
--- the slave at a position is sound where all are
-pub sound_there : (trip limit : ℕ) (ss : List Slave) (p : ℕ) (v : Slave) → AllByRecursion (IsSound trip limit) ss → slice_get ss p ≡ Some v → IsSound trip limit v
-sound_there trip limit [] p v all is = absurd (let z = is in cc)
-sound_there trip limit (s ∷ ss) zero v all is = let same : s ≡ v = some_same is in subst (IsSound trip limit) same all.0
-sound_there trip limit (s ∷ ss) (suc p) v all is = sound_there trip limit ss p v all.1 is
-
-pub sizes_of : (trip limit : ℕ) (ss : List Slave) → AllByRecursion (IsSound trip limit) ss → HaveSize ss
-sizes_of trip limit [] all = tt
-sizes_of trip limit (s ∷ ss) all = (all.0.size, sizes_of trip limit ss all.1)
 
 -- a frame writes none of the n bytes at a place, nor makes a slave latch
 pub record IsQuiet (at n : ℕ) (ds : List DatagramValue) : Type 0 where

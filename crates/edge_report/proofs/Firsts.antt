@@ -8,12 +8,11 @@ use Rattle.std.proofs.lemmas.List.FromFn.{get_or-range_with_len}
 use Rattle.std.proofs.lemmas.List.Elements.{All-get_or, Contains-get_or, filter_passes}
 use Rattle.segment_bounds.specs.Window.{greatest, window_between}
 use Rattle.segment_bounds.proofs.Exported.{either_order}
-use Rattle.segment_file.specs.Segment.{SegmentValue}
+use Rattle.segment_file.specs.Segment.{SegmentValue, row_at}
 use Rattle.sync_units.specs.declared.edge.Signal.{Signal}
 use Rattle.sync_units.specs.declared.edge.Signal.TheVariants.{Sync0, Sync1}
 use Rattle.edge_report.specs.Edges.{AreEdges, edges_of, is_of, rank}
 use Rattle.edge_report.specs.InsideWindow.{bounded, bounded_window}
-use Rattle.edge_report.specs.Slaves.{row_of}
 use Rattle.edge_report.specs.Spread.{allowed_between, allowed_of, are_compared, signal_of}
 use Rattle.edge_report.specs.declared.slave_edge.SlaveEdge.{SlaveEdge}
 use Rattle.edge_report.proofs.Ordering.{index, kept, of_itself, position, turn}
@@ -105,7 +104,7 @@ at_zero s x y here there = by (nat_eq (position x) (position y)) refl
 
     by : (b : Bool) → nat_eq (position x) (position y) ≡ b → window_between s (signal_of s x) (signal_of s y) ≡ allowed_between s x y
     by true e =
-        let rows : nat_eq (row_of s x.position) (row_of s y.position) ≡ true = rw (alike_numbers (position x) (position y) e) (number_itself (row_of s y.position)) in
+        let rows : nat_eq (row_at s x.position) (row_at s y.position) ≡ true = rw (alike_numbers (position x) (position y) e) (number_itself (row_at s y.position)) in
         rw (rows, same, e) refl
     by false e = rw (same, e) refl
 

@@ -6,8 +6,8 @@ use Rattle.std.specs.List.{flat_map, range_with_len}
 use Rattle.esc_regs.specs.declared.clock_kind.ClockKind.{ClockKind}
 use Rattle.esc_regs.specs.declared.clock_kind.ClockKind.TheVariants as kind
 use Rattle.segment_bounds.specs.Bounds.{delay_at, delay_bound_at}
-use Rattle.segment_file.specs.Segment.{SegmentValue}
-use Rattle.edge_report.specs.Slaves.{row_of, slave_at, reference_position}
+use Rattle.segment_file.specs.Segment.{SegmentValue, row_at}
+use Rattle.edge_report.specs.Slaves.{slave_at, reference_position}
 
 -- four hexadecimal digits of lower case
 abbrev pub hex_word : ℕ → List ℕ
@@ -41,7 +41,7 @@ measured_text s row (Some delay) = numbers_text delay (delay_at s row) (delay_bo
 -- the line of the slave at a position
 unfoldable pub slave_line : SegmentValue → ℕ → Option ℕ → List ℕ
 slave_line s p delay =
-    place_text p (slave_at s p).id (kind_text (nat_eq p (reference_position s)) (slave_at s p).kind) ++ measured_text s (row_of s p) delay
+    place_text p (slave_at s p).id (kind_text (nat_eq p (reference_position s)) (slave_at s p).kind) ++ measured_text s (row_at s p) delay
 
 -- with its entry among the delays
 abbrev pub line_among : SegmentValue → List (Option ℕ) → ℕ → List ℕ

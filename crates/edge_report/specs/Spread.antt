@@ -2,9 +2,8 @@
 use Rattle.std.specs.Prelude.{ℕ, ◌+◌, ◌*◌, Bool, not, ◌&&◌, nat_eq, if◌then◌else◌, List}
 use Rattle.segment_bounds.specs.Window.{apart, greatest, signal, window_between}
 use Rattle.segment_bounds.specs.declared.signal.Signal.{Signal}
-use Rattle.segment_file.specs.Segment.{SegmentValue}
+use Rattle.segment_file.specs.Segment.{SegmentValue, row_at}
 use Rattle.edge_report.specs.Edges.{total_shift}
-use Rattle.edge_report.specs.Slaves.{row_of}
 use Rattle.edge_report.specs.declared.slave_edge.SlaveEdge.{SlaveEdge}
 
 -- edges of one index on two different slaves
@@ -24,7 +23,7 @@ spread_of s edges = greatest (spread_between s) edges
 
 -- the signal that has an edge
 abbrev pub signal_of : SegmentValue → SlaveEdge → Signal
-signal_of s e = signal (row_of s e.position) (total_shift s e)
+signal_of s e = signal (row_at s e.position) (total_shift s e)
 
 -- the window of two edges: W of their signals, in fs
 abbrev pub allowed_between : SegmentValue → SlaveEdge → SlaveEdge → ℕ

@@ -12,15 +12,15 @@ use Rattle.esc_regs.specs.declared.clock_kind.ClockKind.{ClockKind}
 use Rattle.esc_regs.proofs.Exported.{apart, number_again, start_numbers, start_whole}
 use Rattle.frame_pass.specs.SlaveState.{holds, station}
 use Rattle.segment_file.specs.Legal.{IsLegal}
-use Rattle.segment_file.specs.Segment.{RowValue, SegmentValue, tree_rows}
-use Rattle.segment_start.specs.Start.{registers_of, slave_by, slave_of, started_segment, no_row}
+use Rattle.segment_file.specs.Segment.{RowValue, SegmentValue, no_row, row_at, tree_rows}
+use Rattle.segment_start.specs.Start.{registers_of, slave_by, slave_of, started_segment}
 use Rattle.segment_start.proofs.Exported.{start_size, as_many, stands_at}
 use Rattle.tree_status.specs.Status.{port_bits, status_of}
 use Rattle.named_slaves.specs.Standing.{Stands}
 use Rattle.named_slaves.proofs.Exported.{low_where}
 use Rattle.honest_replies.specs.Told.{AreInOrder}
 use Rattle.run_of_file.proofs.Exported.{few_rows}
-use Rattle.honest_runs.specs.FileSlaves.{row_at, kind_at, status_at}
+use Rattle.honest_runs.specs.FileSlaves.{kind_at, status_at}
 
 -- a status has 16 bits
 few_bits : (one two three : Bool) → port_bits true 0 + port_bits one 1 + port_bits two 2 + port_bits three 3 < 65536

@@ -22,7 +22,7 @@ use Rattle.master_script.specs.Slaves.{SlaveWords, is_clock, judgement}
 use Rattle.master_script.specs.Words.{delays_of, hung_of}
 use Rattle.master_script.proofs.Exported.{commission_done, hung_length}
 use Rattle.segment_file.specs.Legal.{IsLegal}
-use Rattle.segment_file.specs.Segment.{SegmentValue, tree_rows, clock_at}
+use Rattle.segment_file.specs.Segment.{SegmentValue, tree_rows, clock_at, row_at}
 use Rattle.segment_file.proofs.Exported.{legal_reference, order_many}
 use Rattle.segment_shape.specs.Slaves.{has_clock}
 use Rattle.segment_start.specs.Start.{started_segment}
@@ -30,7 +30,7 @@ use Rattle.honest_replies.specs.Told.{words_of}
 use Rattle.honest_replies.proofs.Exported.{clock_word, flagged, words_many}
 use Rattle.run_of_file.specs.MasterOfFile.{master_of}
 use Rattle.run_of_file.specs.RunOfFile.{RunEnd, turns, commissioned, master_after}
-use Rattle.honest_runs.specs.FileSlaves.{kind_at, row_at, status_at}
+use Rattle.honest_runs.specs.FileSlaves.{kind_at, status_at}
 use Rattle.honest_runs.proofs.Progressing.{IsLate, IsHonest}
 use Rattle.honest_runs.proofs.Judged.{judged_ok}
 use Rattle.honest_runs.proofs.Positions.{row_has}

@@ -20,10 +20,9 @@ use Rattle.master_script.specs.ListedTree.{tree_of}
 use Rattle.master_script.specs.Slaves.{SlaveWords, is_clock, is_measuring, judgement, judged_tree, judged_clocks, tree_told}
 use Rattle.master_script.proofs.Exported.{tree_listed, tree_refused}
 use Rattle.segment_file.specs.Legal.{IsLegal}
-use Rattle.segment_file.specs.Segment.{RowValue, SegmentValue, tree_rows, tree_row, clock_at, measures_at}
-use Rattle.segment_file.proofs.Exported.{order_many, legal_reference, legal_measurable}
+use Rattle.segment_file.specs.Segment.{RowValue, SegmentValue, tree_rows, clock_at, measures_at, no_row}
+use Rattle.segment_file.proofs.Exported.{order_many, rows_many, legal_reference, legal_measurable}
 use Rattle.segment_shape.specs.Slaves.{measures, has_clock}
-use Rattle.segment_start.specs.Start.{no_row}
 use Rattle.tree_status.specs.Status.{status_of, statuses}
 use Rattle.tree_status.proofs.Exported.{listed}
 use Rattle.honest_replies.specs.Told.{word_of, words_of}
@@ -33,9 +32,6 @@ use Rattle.honest_runs.specs.FileSlaves.{kind_at, status_at}
 module _ (s : SegmentValue) (legal : IsLegal s) where
   abbrev pub told : List SlaveWords
   told = words_of (kind_at s) (status_at s) (length s.rows)
-
-  rows_many : length (tree_rows s.rows) ≡ length s.rows
-  rows_many = length-map s.rows tree_row
 
   -- the statuses are those of the tree
   in_order : statuses (tree_rows s.rows) ≡ map (status_at s) (positions (length s.rows))
@@ -59,7 +55,7 @@ module _ (s : SegmentValue) (legal : IsLegal s) where
       → IsByPosition (tree_rows s.rows) (flag (map (λ (row : RowValue). P row.kind) s.rows)) (flag (map f told))
   by_position f P same r low =
       let rows = tree_rows s.rows in
-      let many = rows_many in
+      let many = rows_many s in
       let there = row_within rows legal.tree.tree legal.tree.slaves r low in
       flagged f P (kind_at s) (status_at s) (length s.rows) (position_of rows r) same (omega (arith, there, many))
       ∙ ap (λ k. P (slice_index_or s.rows k no_row).kind) (order_at rows legal.tree.tree legal.tree.slaves r low)

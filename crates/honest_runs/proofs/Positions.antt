@@ -7,13 +7,12 @@ use Rattle.dc_delay.specs.ShapeRows.{positions}
 use Rattle.esc_regs.specs.declared.clock_kind.ClockKind.{ClockKind}
 use Rattle.master_script.specs.Slaves.{SlaveWords, is_clock, is_measuring, clocks, measuring}
 use Rattle.segment_file.specs.Legal.{IsLegal}
-use Rattle.segment_file.specs.Segment.{RowValue, SegmentValue, clock_at, measures_at}
+use Rattle.segment_file.specs.Segment.{RowValue, SegmentValue, clock_at, measures_at, no_row, row_at}
 use Rattle.segment_file.proofs.Exported.{row_within}
 use Rattle.segment_shape.specs.Slaves.{measures, has_clock}
-use Rattle.segment_start.specs.Start.{no_row}
 use Rattle.honest_replies.specs.Told.{word_of, words_of}
 use Rattle.honest_replies.proofs.Exported.{clock_word, measuring_word, flagged, words_many}
-use Rattle.honest_runs.specs.FileSlaves.{kind_at, row_at, status_at}
+use Rattle.honest_runs.specs.FileSlaves.{kind_at, status_at}
 
 picked_same : (f g : ℕ → Bool) (a m : ℕ) → ((p : ℕ) → p < a + m → f p ≡ g p) → filter f (range_with_len a m) ≡ filter g (range_with_len a m)
 picked_same f g a zero each = refl

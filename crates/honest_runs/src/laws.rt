@@ -10,13 +10,13 @@ ghost use Rattle.master_script.specs.declared.step.MasterError.{MasterError};
 ghost use Rattle.master_script.specs.declared.step.MasterError.TheVariants.{Refused};
 ghost use Rattle.master_script.specs.declared.step.Refusal.TheVariants.{Lost};
 ghost use Rattle.master_script.specs.declared.step.Step.{Step};
-ghost use Rattle.segment_file.specs.Segment.{SegmentValue, clock_at, measures_at, tree_rows};
+ghost use Rattle.segment_file.specs.Segment.{SegmentValue, clock_at, measures_at, row_at, tree_rows};
 ghost use Rattle.segment_file.specs.Legal.{IsLegal};
 ghost use Rattle.segment_start.specs.Start.{started_segment};
 ghost use Rattle.honest_replies.specs.Told.{AreInOrder, words_of};
 ghost use Rattle.run_of_file.specs.MasterOfFile.{master_of};
 ghost use Rattle.run_of_file.specs.RunOfFile.{RunEnd, commissioned, settled, armed, ran, master_after};
-ghost use Rattle.honest_runs.specs.FileSlaves.{kind_at, row_at, status_at};
+ghost use Rattle.honest_runs.specs.FileSlaves.{kind_at, status_at};
 
 /// The slaves of a legal segment begin at their positions, none of them with a station address; and what they tell of
 /// themselves lists a tree, with a reference, in which every measuring slave can be measured.

@@ -6,7 +6,7 @@ use Rattle.dc_delay.specs.declared.latch.Latch.{Latch}
 use Rattle.ecat_link.specs.Serves.{End, Sends}
 use Rattle.ecat_link.proofs.Exported.{driven}
 use Rattle.segment_file.specs.Legal.{IsLegal}
-use Rattle.segment_file.specs.Segment.{SegmentValue, measures_at}
+use Rattle.segment_file.specs.Segment.{SegmentValue, measures_at, row_at}
 use Rattle.segment_shape.specs.Slaves.{measures}
 use Rattle.segment_start.specs.Start.{started_segment}
 use Rattle.frame_pass.specs.SegmentState.{segment_step}
@@ -15,11 +15,11 @@ use Rattle.master_script.specs.Progress.{Commissioning, Settling, Progress, late
 use Rattle.master_script.specs.Script.{Answer, Commission, script}
 use Rattle.master_script.specs.declared.step.Step.TheVariants.{Latch as LatchStep}
 use Rattle.master_script.proofs.Exported.{commission_done}
-use Rattle.honest_runs.specs.FileSlaves.{kind_at, row_at, status_at}
+use Rattle.honest_runs.specs.FileSlaves.{kind_at, status_at}
 use Rattle.honest_runs.proofs.Exported.{IsLate, row_has}
 use Rattle.run_of_file.specs.MasterOfFile.{master_of}
 use Rattle.run_of_file.specs.RunOfFile.{RunEnd, commissioned, turns}
-use Rattle.latch_times.specs.HeldTimes.{AllHold}
+use Rattle.resting_clocks.specs.HeldTimes.{AllHold}
 use Rattle.latch_times.specs.ToldTimes.{AreTold, TellsTimes}
 use Rattle.latch_times.proofs.Measuring.{IsLatched, IsMeasuring, IsToldBy, IsUnjudged, reading_steps}
 use Rattle.latch_times.proofs.Runs.{IsHonestHere, IsOnWay, first_clock, late_of, starts, walk}

@@ -1,17 +1,5 @@
 -- What the crates above may cite of these proofs.
 
--- A clock that receives no difference goes on counting 10 ns a tick.
-pub use Rattle.latch_times.proofs.Resting.{Counts, counts_on}
-
--- Frames that write nothing at a place of any slave, whatever its station address.
-pub use Rattle.latch_times.proofs.Far.{AreFar, far_behind, far_left}
-
--- From each slave to all, over one sending.
-pub use Rattle.latch_times.proofs.Stepping.{sound_at, sizes_of, each_after}
-
--- The slave at a position of a legal file, whatever frames have passed it.
-pub use Rattle.latch_times.proofs.Places.{IsFixed, measures_there, kind_there, keeps_there}
-
 -- Words of 32 and 64 bits in registers of 8 bytes.
 pub use Rattle.latch_times.proofs.Widths.{wide_told, number_split}
 

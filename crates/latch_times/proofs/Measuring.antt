@@ -23,9 +23,9 @@ use Rattle.master_script.specs.declared.step.Step.TheVariants.{Count, Identify, 
 use Rattle.honest_replies.specs.Told.{words_of}
 use Rattle.honest_replies.proofs.Exported.{measuring_word, flagged, words_many}
 use Rattle.honest_runs.specs.FileSlaves.{kind_at, status_at}
-use Rattle.latch_times.specs.HeldTimes.{AllHold}
+use Rattle.resting_clocks.specs.HeldTimes.{AllHold}
 use Rattle.latch_times.specs.ToldTimes.{TellsTimes}
-use Rattle.latch_times.proofs.Far.{IsReading}
+use Rattle.resting_clocks.proofs.Exported.{IsReading}
 
 -- up to the judgement
 abbrev pub IsFirst : Step → Type 0

@@ -42,14 +42,15 @@ use Rattle.run_of_file.specs.MasterOfFile.{master_of}
 use Rattle.run_of_file.specs.RunOfFile.{frames_given}
 use Rattle.run_of_file.proofs.Exported.{as_many_kinds, some_rows}
 use Rattle.run_numbers.proofs.Exported.{InStep, in_phase, master_frame_ns, some_kinds, starts_in_step, step_in_step}
-use Rattle.latch_times.specs.Resting.{AllRest, row_there, shown_at}
-use Rattle.latch_times.specs.HeldTimes.{AllHold, HoldsTimes}
+use Rattle.resting_clocks.specs.Resting.{AllRest, row_there, shown_at}
+use Rattle.resting_clocks.specs.HeldTimes.{AllHold, HoldsTimes}
 use Rattle.latch_times.specs.ToldTimes.{TellsTimes}
-use Rattle.latch_times.proofs.Far.{AreFar, IsCommissioning, IsReading, far_latch, far_time}
-use Rattle.latch_times.proofs.Frames.{fixed_step, holds_step, latch_step, rests_step}
+use Rattle.resting_clocks.specs.Far.{AreFar}
+use Rattle.resting_clocks.specs.OfFile.{IsFixed}
+use Rattle.resting_clocks.proofs.Exported.{AtEach, IsCommissioning, IsReading, far_latch, far_time, fixed_step, holds_step, latch_step, rests_step}
+use Rattle.resting_clocks.proofs.Exported.{fixed_first, has_there, rests_first, arrives_there, back_there}
+use Rattle.visit_laws.proofs.Exported.{sound_at}
 use Rattle.latch_times.proofs.Measuring.{IsFirst, IsJudged, IsLatched, IsMeasuring, IsOpen, IsUnjudged, first_asked, latch_asked, rate_asked, reading_asked, reading_steps}
-use Rattle.latch_times.proofs.Places.{IsFixed, fixed_first, has_there, rests_first, arrives_there, back_there}
-use Rattle.latch_times.proofs.Stepping.{AtEach, sound_at}
 use Rattle.latch_times.proofs.Told.{arrival_is, port_is, unit_is}
 use Rattle.latch_times.proofs.Widths.{wide_told, word_told}
 

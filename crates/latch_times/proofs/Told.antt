@@ -26,7 +26,7 @@ use Rattle.named_slaves.specs.Mindful.{AreMindful}
 use Rattle.named_slaves.specs.Standing.{Stands, own_address}
 use Rattle.named_slaves.proofs.Exported.{read_there, found_standing, low_where}
 use Rattle.honest_replies.specs.Told.{AreInOrder}
-use Rattle.latch_times.specs.HeldTimes.{port_register}
+use Rattle.resting_clocks.specs.HeldTimes.{port_register}
 use Rattle.honest_replies.proofs.Exported.{IsFor, ports_for_measuring, unit_for_measuring}
 
 -- the datagram that reads the receive times of the ports, and that of the processing unit

@@ -1,3 +1,1 @@
-pub mod Resting
-pub mod HeldTimes
 pub mod ToldTimes

@@ -1,12 +1,17 @@
 -- The receive times that a master is told by Times.
-use Rattle.std.specs.Prelude.{◌≡◌, ℕ, ◌+◌, ◌%◌, ◌^◌, ◌<◌, true, false, List, Option, Some, None, slice_index, slice_index_or, length}
+use Rattle.std.specs.Prelude.{◌≡◌, ℕ, ◌+◌, ◌*◌, ◌%◌, ◌^◌, ◌<◌, true, false, List, Option, Some, None, slice_index, slice_index_or, length}
 use Rattle.cable_tree.specs.declared.port.Port.{Port}
 use Rattle.cable_tree.specs.PathSums.{arrive, port_time}
+use Rattle.dc_bounds.specs.LockNumbers.{period_fs}
 use Rattle.dc_delay.specs.declared.latch.Latch.{Latch}
 use Rattle.dc_topology.specs.Listed.{port_number}
-use Rattle.segment_file.specs.Segment.{SegmentValue, measures_at, tree_rows}
-use Rattle.honest_runs.specs.FileSlaves.{row_at}
-use Rattle.latch_times.specs.Resting.{row_there, shown_at}
+use Rattle.master_script.specs.Words.{Words}
+use Rattle.segment_file.specs.Segment.{SegmentValue, measures_at, row_at, tree_rows}
+use Rattle.resting_clocks.specs.Resting.{row_there, shown_at}
+
+-- when the Latch that came back was sent, in fs: at its number times the frame period
+abbrev pub latch_sent : SegmentValue → Words → ℕ
+latch_sent s w = w.latched * period_fs s.head.frame_ns
 
 -- they are what the clock at a position, correcting nothing, showed at the visits of a frame that was sent then
 pub record TellsTimes (s : SegmentValue) (p sent : ℕ) (latch : Latch) : Type 0 where

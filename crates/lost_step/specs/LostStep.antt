@@ -1,8 +1,7 @@
 -- The step whose three tries are all lost in a run, by the list of losses alone: no frame and no clock is needed to tell it.
-use Rattle.std.specs.Prelude.{ℕ, ◌+◌, Bool, if◌then◌else◌, List, [], ◌∷◌, ◌++◌, length, map, filter, Option, Some, None, Result, Ok, Err, slice_index}
+use Rattle.std.specs.Prelude.{ℕ, ◌+◌, Bool, if◌then◌else◌, List, [], ◌∷◌, ◌++◌, length, map, filter, Option, Some, None, Result, Ok, Err}
 use Rattle.std.specs.Option.{is_some, option_or}
 use Rattle.std.specs.Result.{result_err}
-use Rattle.cable_tree.specs.FrameOrder.{order}
 use Rattle.dc_delay.specs.ShapeRows.{positions}
 use Rattle.master_script.specs.declared.step.Step.{Step}
 use Rattle.master_script.specs.declared.step.Step.TheVariants.{Count, Identify, Rate, Latch, Times, Set, Arm}
@@ -10,7 +9,7 @@ use Rattle.segment_shape.specs.Losses.{loss_at}
 use Rattle.segment_shape.specs.declared.loss_row.Phase.{Phase}
 use Rattle.segment_shape.specs.declared.loss_row.Phase.TheVariants.{Commission, Drift}
 use Rattle.segment_file.specs.Faults.{lock_in}
-use Rattle.segment_file.specs.Segment.{SegmentValue, counts_of, tree_rows, measures_at, clock_at}
+use Rattle.segment_file.specs.Segment.{SegmentValue, counts_of, measures_at, clock_at, row_at}
 
 -- the frame of this number in this phase is listed as lost
 abbrev pub loses : SegmentValue → Phase → ℕ → Bool
@@ -31,10 +30,6 @@ asked_on (Some b) step next = next b
 unfoldable pub asked : (ℕ → Bool) → ℕ → List Step → Result ℕ Step
 asked lost a [] = Ok a
 asked lost a (step ∷ rest) = asked_on (behind_tries lost a) step (λ b. asked lost b rest)
-
--- the row of the slave at a position in frame order
-abbrev pub row_at : SegmentValue → ℕ → ℕ
-row_at s p = slice_index (order (tree_rows s.rows)) p
 
 -- the positions of the slaves that measure, and of the clocks, in frame order
 unfoldable pub measuring_positions : SegmentValue → List ℕ

@@ -2,10 +2,10 @@
 use Rattle.std.proofs.Common.{◌≡◌, ◌<◌, ◌≤◌, length, ◌∙◌, arith}
 use Rattle.std.proofs.lemmas.List.{length-map}
 use Rattle.cable_tree.specs.FrameOrder.{order}
-use Rattle.segment_file.specs.Segment.{SegmentValue, tree_rows}
+use Rattle.segment_file.specs.Segment.{SegmentValue, row_of, tree_rows}
 use Rattle.segment_file.specs.Legal.{IsLegal}
-use Rattle.segment_file.proofs.Exported.{order_many, few_to_lock, few_in_run}
-use Rattle.run_of_file.specs.MasterOfFile.{master_of, kind_of, plan_of, row_of}
+use Rattle.segment_file.proofs.Exported.{order_many, rows_many, few_to_lock, few_in_run}
+use Rattle.run_of_file.specs.MasterOfFile.{master_of, kind_of, plan_of}
 use Rattle.run_of_file.specs.RunOfFile.{frames_given}
 
 pub as_many_kinds : (s : SegmentValue) → IsLegal s → length (master_of s).kinds ≡ length s.rows
@@ -15,9 +15,6 @@ as_many_kinds s legal = length-map (order (tree_rows s.rows)) (λ r. kind_of (ro
 pub as_many_plans : (s : SegmentValue) → IsLegal s → length (master_of s).plans ≡ length s.rows
 unfolding master_of
 as_many_plans s legal = length-map (order (tree_rows s.rows)) (λ r. plan_of (row_of s r)) ∙ order_many s legal
-
-rows_many : (s : SegmentValue) → length (tree_rows s.rows) ≡ length s.rows
-rows_many s = length-map s.rows _
 
 pub some_rows : (s : SegmentValue) → IsLegal s → 0 < length s.rows
 some_rows s legal = let some = legal.tree.tree.some in let many = rows_many s in omega (arith, some, many)

@@ -1,3 +1,4 @@
 pub mod MasterOfFile
 pub mod RunOfFile
 pub mod AtEnd
+pub mod Commissioned

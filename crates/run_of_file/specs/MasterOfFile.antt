@@ -1,12 +1,11 @@
 -- The configuration of the master of a file: what it is told of its slaves, by position in frame order.
-use Rattle.std.specs.Prelude.{ℕ, map, slice_index_or}
+use Rattle.std.specs.Prelude.{map}
 use Rattle.cable_tree.specs.FrameOrder.{order}
 use Rattle.dc_delay.specs.declared.kind.Kind.{Kind}
 use Rattle.master_script.specs.Config.{ConfigValue}
 use Rattle.master_script.specs.declared.plan.SyncPlan.{SyncPlan}
 use Rattle.segment_file.specs.Faults.{lock_in}
-use Rattle.segment_file.specs.Segment.{RowValue, SegmentValue, counts_of, tree_rows}
-use Rattle.segment_start.specs.Start.{no_row}
+use Rattle.segment_file.specs.Segment.{RowValue, SegmentValue, counts_of, row_of, tree_rows}
 
 -- how long a slave keeps a frame
 abbrev pub kind_of : RowValue → Kind
@@ -15,10 +14,6 @@ kind_of row = record { tp_ns = row.tp_ns; tf_ns = row.tf_ns }
 -- what its SYNC signals are to do
 abbrev pub plan_of : RowValue → SyncPlan
 plan_of row = record { shift_ns = row.shift_ns; sync1_ns = row.sync1_ns }
-
--- the row of a number
-abbrev pub row_of : SegmentValue → ℕ → RowValue
-row_of s r = slice_index_or s.rows r no_row
 
 -- the master is told no cable, no clock and no start value, nor which frames are lost
 unfoldable pub master_of : SegmentValue → ConfigValue

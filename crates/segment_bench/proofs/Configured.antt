@@ -6,11 +6,10 @@ use Rattle.std.proofs.lemmas.List.{length-map, get_or-map}
 use Rattle.std.proofs.lemmas.List.Elements.{All-get_or, All-from_get_or, All-map}
 use Rattle.cable_tree.specs.FrameOrder.{order}
 use Rattle.cable_tree.specs.Row.{IsRow}
-use Rattle.segment_file.specs.Segment.{SegmentValue, tree_row, tree_rows}
+use Rattle.segment_file.specs.Segment.{SegmentValue, no_row, row_of, tree_row, tree_rows}
 use Rattle.segment_file.specs.Legal.{IsLegal, IsClock}
 use Rattle.segment_file.proofs.Exported.{order_many, row_within}
-use Rattle.segment_start.specs.Start.{no_row}
-use Rattle.run_of_file.specs.MasterOfFile.{kind_of, plan_of, row_of, master_of}
+use Rattle.run_of_file.specs.MasterOfFile.{kind_of, plan_of, master_of}
 use Rattle.run_of_file.proofs.Exported.{as_many_kinds, as_many_plans, some_rows, few_rows, lock_in_few}
 use Rattle.master_steps.specs.ConfigRange.{IsConfig, IsKind, IsPlan, IsSync1}
 

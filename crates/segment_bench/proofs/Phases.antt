@@ -1,13 +1,12 @@
 -- The phases of a run over a bench, one behind the other.
-use Rattle.std.proofs.Common.{◌≡◌, ℕ, ◌≤◌, Option, Some, None, sym, ap, subst, ◌∙◌}
+use Rattle.std.proofs.Common.{◌≡◌, ℕ, ◌≤◌, Some, None, sym, subst, ◌∙◌}
 use Rattle.std.specs.Prelude.{Ok, Err}
 use Rattle.ecat_link.specs.Serves.{Serves}
 use Rattle.dc_bench.specs.BenchState.{BenchState}
 use Rattle.frame_pass.specs.SegmentState.{SegmentState, segment_step, finished}
-use Rattle.master_script.specs.Kept.{Ends, Kept, StandsFor}
+use Rattle.master_script.specs.Kept.{Ends, StandsFor}
 use Rattle.master_script.specs.Script.{Answer, Call, Commission, Settle, Arm, Run, script}
 use Rattle.master_script.specs.declared.step.MasterError.{MasterError}
-use Rattle.master_script.specs.declared.step.Stage.{Stage}
 use Rattle.master_script.specs.declared.step.Stage.TheVariants.{Ended}
 use Rattle.run_of_file.specs.AtEnd.{IsAtEnd}
 use Rattle.run_of_file.specs.RunOfFile.{commissioned, settled, armed, ran, end_of_run, frames_given}
@@ -15,7 +14,6 @@ use Rattle.run_of_file.proofs.Exported.{commissioned_by, settled_by, armed_by, r
 use Rattle.run_of_file.proofs.Exported.{ran_ends, whole_ends_so}
 use Rattle.segment_file.specs.Legal.{IsLegal}
 use Rattle.segment_file.specs.Segment.{SegmentValue}
-use Rattle.segment_start.specs.Start.{started_segment}
 use Rattle.segment_bench.specs.BenchRun.{HasRun}
 use Rattle.segment_bench.specs.NewBench.{IsNew}
 use Rattle.segment_bench.proofs.Started.{started}

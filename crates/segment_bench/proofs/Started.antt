@@ -1,10 +1,9 @@
 -- A master that has run has a start.
-use Rattle.std.proofs.Common.{◌≡◌, ℕ, ◌<◌, List, length, Option, sym, ap, subst, ◌∙◌, arith}
+use Rattle.std.proofs.Common.{◌≡◌, ℕ, ◌<◌, List, Option, sym, ap, subst, ◌∙◌, arith}
 use Rattle.std.specs.Prelude.{IsSome}
 use Rattle.ecat_link.specs.Exchanges.{Exchange}
 use Rattle.master_script.specs.Kept.{Kept, kept_after}
 use Rattle.master_script.specs.Stages.{HasDrifts}
-use Rattle.master_script.specs.declared.step.Stage.{Stage}
 use Rattle.master_script.specs.declared.step.Stage.TheVariants.{Ended}
 use Rattle.master_script.proofs.Exported.{drifts_told, start_told}
 use Rattle.run_of_file.specs.MasterOfFile.{master_of}

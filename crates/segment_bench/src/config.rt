@@ -4,8 +4,8 @@ ghost use Rattle.std.specs.Prelude.{◌≡◌, ◌<◌, IfOk, length, map};
 ghost use Rattle.cable_tree.specs.FrameOrder.{order};
 ghost use Rattle.master_steps.specs.ConfigRange.{value_of};
 ghost use Rattle.segment_file.specs.Legal.{IsLegal};
-ghost use Rattle.segment_file.specs.Segment.{tree_rows};
-ghost use Rattle.run_of_file.specs.MasterOfFile.{kind_of, plan_of, row_of, master_of};
+ghost use Rattle.segment_file.specs.Segment.{row_of, tree_rows};
+ghost use Rattle.run_of_file.specs.MasterOfFile.{kind_of, plan_of, master_of};
 
 use dc_delay::Kind;
 use dc_master::{Config, SyncPlan};

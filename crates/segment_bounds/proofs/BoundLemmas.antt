@@ -2,7 +2,6 @@
 use Rattle.std.specs.Prelude.{◌≡◌, ◌↔◌, ℕ, ◌+◌, ◌*◌, ◌<◌, ◌≤◌, Bool, true, false, nat_eq, Option, Some, None, is_none, unwrap_or, List, length}
 use Rattle.std.proofs.Common.{arith, refl, sym, ◌∙◌}
 use Rattle.std.proofs.lemmas.Bool.Decides.{nat_tests}
-use Rattle.std.proofs.lemmas.List.{length-map}
 use Rattle.cable_tree.specs.PathSums.{arrive, round_trip}
 use Rattle.cable_tree.proofs.Exported.{inside}
 use Rattle.dc_bounds.specs.LockNumbers.{period_fs}
@@ -10,13 +9,10 @@ use Rattle.dc_bounds.specs.TickBounds.{tick_gap}
 use Rattle.dc_bounds.specs.CopyBound.{copy_bound}
 use Rattle.dc_bounds.proofs.Exported.{reference_first, quarter, weight_few, boundless, weightless}
 use Rattle.segment_file.specs.Faults.{Fault, no_reference, first_of, fault_if, clock_fault}
-use Rattle.segment_file.specs.Segment.{RowValue, SegmentValue, tree_row, tree_rows, measures_at, clock_at, reference_row}
+use Rattle.segment_file.specs.Segment.{RowValue, SegmentValue, tree_rows, measures_at, clock_at, reference_row}
 use Rattle.segment_file.specs.Legal.{IsLegal}
-use Rattle.segment_file.proofs.Exported.{faultless, legal_round_trip}
+use Rattle.segment_file.proofs.Exported.{faultless, legal_round_trip, rows_many}
 use Rattle.segment_bounds.specs.Bounds.{reference_of, weight_at, delay_bound_at, delay_at, copy_bound_at}
-
-rows_many : (s : SegmentValue) → length (tree_rows s.rows) ≡ length s.rows
-rows_many s = length-map s.rows tree_row
 
 pub few_weights : (s : SegmentValue) (r : ℕ) → IsLegal s → r < length s.rows → weight_at s r ≤ 1024
 few_weights s r legal low = weight_few (tree_rows s.rows) (measures_at s.rows) (clock_at s.rows) r legal.tree (omega (arith, rows_many s))

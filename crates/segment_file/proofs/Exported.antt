@@ -5,7 +5,7 @@ pub use Rattle.segment_file.proofs.CountLemmas.{count_by-cons, counted}
 
 -- What a legal segment has.
 pub use Rattle.segment_file.proofs.LegalLemmas.{faultless, legal_frames, few_to_lock, few_in_run, legal_round_trip, legal_reference}
-pub use Rattle.segment_file.proofs.LegalLemmas.{legal_measurable, order_many, row_within}
+pub use Rattle.segment_file.proofs.LegalLemmas.{legal_measurable, rows_many, order_many, row_within}
 
 -- The losses of a legal segment.
 pub use Rattle.segment_file.proofs.LossLaws.{one_comes}

@@ -1,5 +1,5 @@
 -- What a legal segment has.
-use Rattle.std.specs.Prelude.{◌≡◌, ℕ, zero, suc, is_none, ◌+◌, ◌*◌, ◌^◌, ◌<◌, length, nat_le, ◌≤◌, ℤ, pos, ◌≤ℤ◌, int_lt, nat_lt, Bool, true, false, cond, if◌then◌else◌, ◌||◌, List, [], ◌∷◌, map, count_by, Option, Some, None, option_map, slice_index, slice_index_or}
+use Rattle.std.specs.Prelude.{◌≡◌, ℕ, zero, suc, is_none, ◌+◌, ◌*◌, ◌^◌, ◌<◌, length, nat_le, ◌≤◌, ℤ, pos, ◌≤ℤ◌, int_lt, nat_lt, Bool, true, false, cond, if◌then◌else◌, ◌||◌, List, [], ◌∷◌, map, count_by, Option, Some, None, option_map, slice_index_or}
 use Rattle.std.specs.List.{find}
 use Rattle.std.proofs.Common.{arith, refl, subst, ◌∙◌}
 use Rattle.std.proofs.lemmas.Bool.Decides.{nat_tests}
@@ -16,7 +16,7 @@ use Rattle.cable_tree.proofs.Exported.{order_within, order_whole}
 use Rattle.segment_shape.specs.Head.{HeadValue}
 use Rattle.segment_shape.specs.declared.loss_row.LossRow.{LossRow}
 use Rattle.std.proofs.lemmas.List.{length-map}
-use Rattle.segment_file.specs.Segment.{RowValue, SegmentValue, CountsValue, is_clock, clocks, signals, measures_at, clock_at, counts_of, tree_row, tree_rows, reference_row}
+use Rattle.segment_file.specs.Segment.{RowValue, SegmentValue, CountsValue, is_clock, clocks, signals, measures_at, clock_at, counts_of, tree_row, tree_rows, reference_row, row_at}
 use Rattle.segment_file.specs.Runs.{first_run}
 use Rattle.segment_file.specs.Counted.{IsCounted}
 use Rattle.segment_file.specs.Legal.{IsLegal}
@@ -145,14 +145,17 @@ pub legal_measurable : (s : SegmentValue) → IsLegal s → unmeasurable (tree_r
 unfolding clock_fault
 legal_measurable s legal = mapped_none _ _ (neither _ _ (neither _ _ (faultless s legal.faultless).0).1).1
 
--- as many places in frame order as rows
+-- the tree has a row for each row of the file, and as many places in frame order
+pub rows_many : (s : SegmentValue) → length (tree_rows s.rows) ≡ length s.rows
+rows_many s = length-map s.rows tree_row
+
 pub order_many : (s : SegmentValue) → IsLegal s → length (order (tree_rows s.rows)) ≡ length s.rows
-order_many s legal = order_whole (tree_rows s.rows) legal.tree.tree legal.tree.slaves ∙ length-map s.rows tree_row
+order_many s legal = order_whole (tree_rows s.rows) legal.tree.tree legal.tree.slaves ∙ rows_many s
 
 -- a place in frame order is that of a row
-pub row_within : (s : SegmentValue) → IsLegal s → (position : ℕ) → position < length s.rows → slice_index (order (tree_rows s.rows)) position < length s.rows
+pub row_within : (s : SegmentValue) → IsLegal s → (position : ℕ) → position < length s.rows → row_at s position < length s.rows
 row_within s legal position low =
-    omega (arith, order_within (tree_rows s.rows) legal.tree.tree legal.tree.slaves position (omega (arith, low, order_many s legal)), length-map s.rows tree_row)
+    omega (arith, order_within (tree_rows s.rows) legal.tree.tree legal.tree.slaves position (omega (arith, low, order_many s legal)), rows_many s)
 
 -- the start of the units fits 63 bits
 pub legal_fits : (s : SegmentValue) (l k : ℕ) → IsLegal s → AreTicksOf s.head.ppm l k → l ≤ 100000 * period_fs s.head.frame_ns

@@ -1,8 +1,10 @@
 -- A segment: its slaves with their cables and the oscillators of their clocks, and the frames that are lost.
-use Rattle.std.specs.Prelude.{ℕ, ◌+◌, Bool, List, length, map, count_by, Option, is_some}
+use Rattle.std.specs.Prelude.{ℕ, ◌+◌, Bool, List, [], length, map, count_by, slice_index, slice_index_or, Option, None, is_some}
 use Rattle.esc_regs.specs.declared.clock_kind.ClockKind.{ClockKind}
+use Rattle.esc_regs.specs.declared.clock_kind.ClockKind.TheVariants as kind
 use Rattle.osc_clock.specs.Ticks.{Rate, Oscillator}
 use Rattle.cable_tree.specs.declared.port.Above.{Above}
+use Rattle.cable_tree.specs.FrameOrder.{order}
 use Rattle.cable_tree.specs.Row.{Row}
 use Rattle.segment_shape.specs.Head.{HeadValue}
 use Rattle.segment_shape.specs.Slaves.{measures, has_clock}
@@ -35,6 +37,31 @@ tree_row r = record { above = r.above; tp_ns = r.tp_ns; tf_ns = r.tf_ns; cable_p
 
 abbrev pub tree_rows : List RowValue → List Row
 tree_rows rows = map tree_row rows
+
+-- what stands past the last row
+abbrev pub no_row : RowValue
+no_row = record {
+  id = [];
+  kind = kind.None;
+  tp_ns = 0;
+  tf_ns = 0;
+  cable_ps = 0;
+  above = None;
+  start = 0;
+  phase_fs = 0;
+  period_fs = 0;
+  rates = [];
+  shift_ns = 0;
+  sync1_ns = None;
+}
+
+-- the row of a number
+abbrev pub row_of : SegmentValue → ℕ → RowValue
+row_of s r = slice_index_or s.rows r no_row
+
+-- the number of the row at a position, which is a place in frame order, counted from 0
+abbrev pub row_at : SegmentValue → ℕ → ℕ
+row_at s p = slice_index (order (tree_rows s.rows)) p
 
 -- the oscillator of a slave that measures
 abbrev pub oscillator : RowValue → Oscillator

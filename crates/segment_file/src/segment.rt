@@ -10,7 +10,7 @@ ghost use Rattle.segment_file.specs.Faults.{frames_of_run, lock_in, step_of};
 ghost use Rattle.segment_file.specs.Legal.{IsLegal};
 ghost use Rattle.segment_file.specs.Placed.{placed};
 ghost use Rattle.segment_file.specs.Seen.{row_seen};
-ghost use Rattle.segment_file.specs.Segment.{clocks, counts_of, measuring, reference_row, signals, tree_rows};
+ghost use Rattle.segment_file.specs.Segment.{clocks, counts_of, measuring, reference_row, row_at, signals, tree_rows};
 ghost use Rattle.segment_file.specs.Told.{IsRefusal, IsSegmentText, IsTold};
 
 use crate::checks::{check, tree_of};
@@ -205,7 +205,7 @@ impl Segment {
     /// The row at a position, the place in frame order counted from 0.
     pub fn row_at(&self, position: u16) -> u16
         requires { position < length self.now.rows }
-        ensures is { result ≡ slice_index (order (tree_rows self.now.rows)) position }
+        ensures is { result ≡ row_at self.now position }
         ensures row { result < length self.now.rows }
     {
         self.tree.order()[usize::from(position)]
@@ -214,7 +214,7 @@ impl Segment {
     /// The position of the reference clock.
     pub fn reference_position(&self) -> u16
         ensures within { result < length self.now.rows }
-        ensures is { reference_row self.now.rows ≡ Some (slice_index (order (tree_rows self.now.rows)) result) }
+        ensures is { reference_row self.now.rows ≡ Some (row_at self.now result) }
         ensures position { option_map (position_of (tree_rows self.now.rows)) (reference_row self.now.rows) ≡ Some result }
     {
         self.tree.position(self.reference)

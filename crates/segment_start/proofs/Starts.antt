@@ -1,26 +1,23 @@
 -- The slaves of a legal segment as they begin.
-use Rattle.std.proofs.Common.{◌≡◌, ℕ, suc, ◌+◌, ◌-◌, ◌^◌, ◌<◌, ◌≤◌, List, [], ◌∷◌, length, map, Option, Some, None, refl, ap, ◌∙◌, arith}
+use Rattle.std.proofs.Common.{◌≡◌, ℕ, suc, ◌<◌, ◌≤◌, List, [], ◌∷◌, length, map, Option, Some, None, refl, ap, ◌∙◌, arith}
 use Rattle.std.proofs.lemmas.List.{length-map}
-use Rattle.std.specs.Prelude.{IfSome, slice_get, slice_index, slice_index_or, true, false}
+use Rattle.std.specs.Prelude.{IfSome, slice_get, slice_index}
 use Rattle.std.specs.List.{All, AllByRecursion}
 use Rattle.std.specs.Option.{option_map}
 use Rattle.std.proofs.lemmas.Option.{slice_get-map, slice_get-get_or}
 use Rattle.esc_regs.specs.declared.clock_kind.ClockKind.{ClockKind}
 use Rattle.esc_regs.specs.declared.clock_kind.ClockKind.TheVariants as kind
-use Rattle.osc_clock.specs.Ticks.{IsRunning}
 use Rattle.cable_tree.specs.Row.{Row, IsRow}
 use Rattle.cable_tree.specs.FrameOrder.{order}
-use Rattle.cable_tree.specs.PathSums.{arrive, port_time, round_trip, span}
+use Rattle.cable_tree.specs.PathSums.{port_time, round_trip}
 use Rattle.cable_tree.specs.Segment.{IsTree}
 use Rattle.cable_tree.specs.declared.port.Port.{Port}
 use Rattle.cable_tree.specs.declared.port.Port.TheVariants.{P1, P2, P3}
-use Rattle.segment_file.specs.Segment.{RowValue, SegmentValue, oscillator, tree_rows}
+use Rattle.segment_file.specs.Segment.{RowValue, SegmentValue, row_at, row_of, tree_rows}
 use Rattle.segment_file.specs.Legal.{IsLegal}
-use Rattle.segment_file.proofs.Exported.{order_many, row_within}
-use Rattle.frame_pass.specs.SlaveState.{Timing, Slave, Visits}
+use Rattle.segment_file.proofs.Exported.{order_many, row_within, rows_many}
 use Rattle.frame_pass.specs.Invariants.{IsSound, IsSoundSegment, IsWithin, StandsBy}
-use Rattle.frame_pass.proofs.Exported.{size_holding}
-use Rattle.segment_start.specs.Start.{registers_of, slave_of, slave_by, timing_by, timing_of, visits_of, no_row, started_segment}
+use Rattle.segment_start.specs.Start.{slave_of, slave_by, timing_by, visits_of, started_segment}
 use Rattle.cable_tree.proofs.Exported.{port_time_inside, inside}
 use Rattle.segment_start.proofs.Registers.{start_size}
 
@@ -50,13 +47,10 @@ sound_by rows cycles r row tree slaves low = record {
   visits = visits_within rows tree slaves r low;
 }
 
-pub rows_many : (s : SegmentValue) → length (tree_rows s.rows) ≡ length s.rows
-rows_many s = search (arith, length-map)
-
 sound_of : (s : SegmentValue) (r : ℕ) → IsLegal s → r < length s.rows → IsSound (round_trip (tree_rows s.rows)) 0 (slave_of s r)
 unfolding slave_of
 sound_of s r legal low =
-    sound_by (tree_rows s.rows) s.head.cycles r (slice_index_or s.rows r no_row) legal.tree.tree legal.tree.slaves (let many = rows_many s in omega (arith, low, many))
+    sound_by (tree_rows s.rows) s.head.cycles r (row_of s r) legal.tree.tree legal.tree.slaves (let many = rows_many s in omega (arith, low, many))
 
 -- each of these rows is one of the segment
 abbrev AreRows : ℕ → List ℕ → Type 0
@@ -84,7 +78,7 @@ as_many s legal = length-map (order (tree_rows s.rows)) (slave_of s) ∙ order_m
 number_at_place : (rs : List ℕ) (p : ℕ) → p < length rs → slice_get rs p ≡ Some (slice_index rs p)
 number_at_place rs p low = slice_get-get_or rs p 0 low
 
-pub stands_at : (s : SegmentValue) (p : ℕ) → IsLegal s → p < length s.rows → slice_get (started_segment s).slaves p ≡ Some (slave_of s (slice_index (order (tree_rows s.rows)) p))
+pub stands_at : (s : SegmentValue) (p : ℕ) → IsLegal s → p < length s.rows → slice_get (started_segment s).slaves p ≡ Some (slave_of s (row_at s p))
 unfolding started_segment
 stands_at s p legal low =
     let many = order_many s legal in

@@ -1,15 +1,13 @@
 -- When the frames of a legal segment leave, and how its clocks begin.
-use Rattle.std.proofs.Common.{◌≡◌, ℕ, ◌+◌, ◌*◌, ◌^◌, ◌<◌, ◌≤◌, List, [], length, Option, Some, None, Bool, true, false, refl, ap, subst, ◌∙◌, arith}
+use Rattle.std.proofs.Common.{◌≡◌, ℕ, ◌+◌, ◌*◌, ◌^◌, ◌<◌, ◌≤◌, List, [], length, Option, Some, None, true, refl, ap, subst, ◌∙◌, arith}
 use Rattle.std.specs.Prelude.{IfSome, slice_index_or}
-use Rattle.std.specs.List.{All}
 use Rattle.std.proofs.lemmas.List.Elements.{All-get_or}
 use Rattle.ecat_frame.specs.FrameGrammar.{FrameValue}
 use Rattle.esc_regs.specs.declared.clock_kind.ClockKind.{ClockKind}
 use Rattle.esc_regs.specs.declared.clock_kind.ClockKind.TheVariants as kind
 use Rattle.osc_clock.specs.Ticks.{IsRunning}
-use Rattle.dc_bounds.specs.TickFacts.{IsWithin}
 use Rattle.segment_shape.specs.Slaves.{greatest_start, measures}
-use Rattle.segment_file.specs.Segment.{RowValue, SegmentValue, oscillator, tree_rows, is_measuring}
+use Rattle.segment_file.specs.Segment.{RowValue, SegmentValue, oscillator, no_row}
 use Rattle.segment_file.specs.Legal.{IsLegal, IsClock, KeepsTime}
 use Rattle.segment_file.proofs.Exported.{legal_round_trip, legal_clocks}
 use Rattle.frame_pass.specs.SlaveState.{Timing, Slave, width}
@@ -17,7 +15,7 @@ use Rattle.frame_pass.specs.SegmentState.{leaves_at}
 use Rattle.frame_pass.specs.Invariants.{IsUnsent, after_frames}
 use Rattle.frame_pass.specs.ClockHistory.{HasHistory}
 use Rattle.frame_pass.proofs.Exported.{sending_times, of_start}
-use Rattle.segment_start.specs.Start.{registers_of, slave_of, timing_by, timing_of, no_row, started_segment}
+use Rattle.segment_start.specs.Start.{registers_of, slave_of, timing_by, timing_of, started_segment}
 
 pub starts_unsent : (s : SegmentValue) → IsUnsent (started_segment s)
 unfolding started_segment

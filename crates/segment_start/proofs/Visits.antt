@@ -1,24 +1,24 @@
 -- What stands at a position, and in which order a frame visits a slave.
 use Rattle.std.proofs.Common.{◌≡◌, ℕ, ◌+◌, ◌<◌, ◌≤◌, List, length, Option, Some, None, refl, sym, ap, subst, ◌∙◌, arith}
-use Rattle.std.specs.Prelude.{IfSome, slice_get, slice_index, slice_index_or}
+use Rattle.std.specs.Prelude.{IfSome, slice_get}
 use Rattle.std.specs.List.{All}
 use Rattle.std.proofs.lemmas.Option.{slice_get_within}
 use Rattle.cable_tree.specs.Row.{Row, IsRow}
 use Rattle.cable_tree.specs.Segment.{IsTree}
-use Rattle.cable_tree.specs.FrameOrder.{child, order}
+use Rattle.cable_tree.specs.FrameOrder.{child}
 use Rattle.cable_tree.specs.Hops.{lap, lap_before, or_before, previous}
 use Rattle.cable_tree.specs.PathSums.{arrive, back_from, port_time}
 use Rattle.cable_tree.specs.declared.port.Port.{Port}
 use Rattle.cable_tree.specs.declared.port.Port.TheVariants.{P1, P2, P3}
 use Rattle.cable_tree.proofs.Exported.{laps_rise, port_time_of}
 use Rattle.tree_status.specs.Status.{status_of}
-use Rattle.segment_file.specs.Segment.{SegmentValue, tree_rows}
+use Rattle.segment_file.specs.Segment.{SegmentValue, row_at, row_of, tree_rows}
 use Rattle.segment_file.specs.Legal.{IsLegal}
-use Rattle.segment_file.proofs.Exported.{row_within}
-use Rattle.frame_pass.specs.SlaveState.{Slave, Visits}
+use Rattle.segment_file.proofs.Exported.{row_within, rows_many}
+use Rattle.frame_pass.specs.SlaveState.{Slave}
 use Rattle.visit_laws.specs.ReceiveTimes.{AreInTurn, until}
-use Rattle.segment_start.specs.Start.{registers_of, slave_of, started_segment, timing_by, visits_of, no_row}
-use Rattle.segment_start.proofs.Starts.{as_many, rows_many, stands_at}
+use Rattle.segment_start.specs.Start.{registers_of, slave_of, started_segment, timing_by, visits_of}
+use Rattle.segment_start.proofs.Starts.{as_many, stands_at}
 
 module _ (rows : List Row) (tree : IsTree rows) (slaves : All IsRow rows) (r : ℕ) (low : r < length rows) where
   -- the visit before port 1, by the lap before it
@@ -64,24 +64,24 @@ module _ (s : SegmentValue) (p : ℕ) (v : Slave) (legal : IsLegal s) (there : s
   low : p < length s.rows
   low = let within = slice_get_within (started_segment s).slaves p v there in let many = as_many s legal in omega (arith, within, many)
 
-  pub row_there : slice_index (order (tree_rows s.rows)) p < length s.rows
+  pub row_there : row_at s p < length s.rows
   row_there = row_within s legal p low
 
-  made : slave_of s (slice_index (order (tree_rows s.rows)) p) ≡ v
+  made : slave_of s (row_at s p) ≡ v
   made = same_some Slave _ v (sym (stands_at s p legal low) ∙ there)
 
-  pub visits_there : v.visits ≡ visits_of (tree_rows s.rows) (slice_index (order (tree_rows s.rows)) p)
+  pub visits_there : v.visits ≡ visits_of (tree_rows s.rows) (row_at s p)
   unfolding slave_of
   visits_there = sym (ap (λ x. x.visits) made)
 
-  pub registers_there : v.registers ≡ registers_of (slice_index_or s.rows (slice_index (order (tree_rows s.rows)) p) no_row).kind (status_of (tree_rows s.rows) (slice_index (order (tree_rows s.rows)) p))
+  pub registers_there : v.registers ≡ registers_of (row_of s (row_at s p)).kind (status_of (tree_rows s.rows) (row_at s p))
   unfolding slave_of
   registers_there = sym (ap (λ x. x.registers) made)
 
   pub clock_there : v.timing
-      ≡ timing_by (slice_index_or s.rows (slice_index (order (tree_rows s.rows)) p) no_row).kind s.head.cycles (slice_index_or s.rows (slice_index (order (tree_rows s.rows)) p) no_row)
+      ≡ timing_by (row_of s (row_at s p)).kind s.head.cycles (row_of s (row_at s p))
   unfolding slave_of
   clock_there = sym (ap (λ x. x.timing) made)
 
   pub position_in_turn : AreInTurn v.visits
-  position_in_turn = subst (λ x. AreInTurn x.visits) made (row_in_turn s (slice_index (order (tree_rows s.rows)) p) legal row_there)
+  position_in_turn = subst (λ x. AreInTurn x.visits) made (row_in_turn s (row_at s p) legal row_there)

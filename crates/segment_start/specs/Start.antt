@@ -1,5 +1,5 @@
 -- A segment before its first frame: the slaves of a file in frame order, at true time 0.
-use Rattle.std.specs.Prelude.{ℕ, ◌/◌, List, [], map, Option, Some, None, slice_index_or}
+use Rattle.std.specs.Prelude.{ℕ, ◌/◌, List, map, Option, Some, None}
 use Rattle.esc_regs.specs.declared.clock_kind.ClockKind.{ClockKind}
 use Rattle.esc_regs.specs.declared.clock_kind.ClockKind.TheVariants as kind
 use Rattle.esc_regs.specs.RegisterFile.{Registers}
@@ -11,7 +11,8 @@ use Rattle.cable_tree.specs.declared.port.Port.TheVariants.{P1, P2, P3}
 use Rattle.cable_tree.specs.FrameOrder.{order}
 use Rattle.cable_tree.specs.PathSums.{arrive, port_time, round_trip}
 use Rattle.tree_status.specs.Status.{status_of}
-use Rattle.segment_file.specs.Segment.{RowValue, SegmentValue, oscillator, tree_rows}
+use Rattle.segment_file.specs.Segment.{RowValue, SegmentValue, oscillator, row_of, tree_rows}
+pub use Rattle.segment_file.specs.Segment.{no_row}
 use Rattle.frame_pass.specs.SlaveState.{Visits, Timing, Slave, holding}
 use Rattle.frame_pass.specs.SegmentState.{SegmentState}
 
@@ -51,25 +52,8 @@ slave_by rows cycles r row = record {
   timing = timing_by row.kind cycles row;
 }
 
--- what stands at a row past the end
-abbrev pub no_row : RowValue
-no_row = record {
-  id = [];
-  kind = kind.None;
-  tp_ns = 0;
-  tf_ns = 0;
-  cable_ps = 0;
-  above = None;
-  start = 0;
-  phase_fs = 0;
-  period_fs = 0;
-  rates = [];
-  shift_ns = 0;
-  sync1_ns = None;
-}
-
 unfoldable pub slave_of : SegmentValue → ℕ → Slave
-slave_of s r = slave_by (tree_rows s.rows) s.head.cycles r (slice_index_or s.rows r no_row)
+slave_of s r = slave_by (tree_rows s.rows) s.head.cycles r (row_of s r)
 
 -- no frame was sent or lost yet
 unfoldable pub started_segment : SegmentValue → SegmentState

@@ -1,10 +1,9 @@
 //! Laws over the definitions alone, for proofs of the layers above. They speak of any legal segment.
 
-ghost use Rattle.std.specs.Prelude.{◌≡◌, ℕ, ◌+◌, ◌*◌, ◌<◌, ◌≤◌, ◌^◌, List, [], length, Some, IfSome, slice_get, slice_index, slice_index_or};
+ghost use Rattle.std.specs.Prelude.{◌≡◌, ℕ, ◌+◌, ◌*◌, ◌<◌, ◌≤◌, ◌^◌, List, [], length, Some, IfSome, slice_get};
 ghost use Rattle.ecat_frame.specs.FrameGrammar.{FrameValue};
 ghost use Rattle.osc_clock.specs.Ticks.{IsRunning};
-ghost use Rattle.cable_tree.specs.FrameOrder.{order};
-ghost use Rattle.segment_file.specs.Segment.{SegmentValue, tree_rows};
+ghost use Rattle.segment_file.specs.Segment.{SegmentValue, row_at, row_of, tree_rows};
 ghost use Rattle.segment_file.specs.Legal.{IsLegal};
 ghost use Rattle.tree_status.specs.Status.{status_of};
 ghost use Rattle.frame_pass.specs.SlaveState.{Slave, Timing, width};
@@ -12,7 +11,7 @@ ghost use Rattle.frame_pass.specs.SegmentState.{leaves_at};
 ghost use Rattle.frame_pass.specs.Invariants.{IsSoundSegment, IsUnsent, after_frames};
 ghost use Rattle.frame_pass.specs.ClockHistory.{HasHistory};
 ghost use Rattle.visit_laws.specs.ReceiveTimes.{AreInTurn};
-ghost use Rattle.segment_start.specs.Start.{registers_of, visits_of, timing_by, no_row, slave_of, started_segment};
+ghost use Rattle.segment_start.specs.Start.{registers_of, visits_of, timing_by, slave_of, started_segment};
 
 /// Nothing was sent yet, and every slave stands at true time 0, with 4096 bytes of registers and visits within the
 /// round trip. So time goes on from there (the law of `frame_pass` on times).
@@ -25,20 +24,20 @@ pub fn starts_in_order()
 pub fn slaves_in_frame_order()
     ensures count { (s : SegmentValue) → IsLegal s → length (started_segment s).slaves ≡ length s.rows }
     ensures each { (s : SegmentValue) (p : ℕ) → IsLegal s → p < length s.rows
-        → slice_get (started_segment s).slaves p ≡ Some (slave_of s (slice_index (order (tree_rows s.rows)) p)) }
+        → slice_get (started_segment s).slaves p ≡ Some (slave_of s (row_at s p)) }
 {}
 
 /// What stands at a position: the row there in frame order, and by that row when a frame visits the slave, its registers,
 /// and its clock with the unit and the edges.
 pub fn slave_at_position()
     ensures row { (s : SegmentValue) (p : ℕ) (v : Slave) → IsLegal s → slice_get (started_segment s).slaves p ≡ Some v
-        → slice_index (order (tree_rows s.rows)) p < length s.rows }
+        → row_at s p < length s.rows }
     ensures visits { (s : SegmentValue) (p : ℕ) (v : Slave) → IsLegal s → slice_get (started_segment s).slaves p ≡ Some v
-        → v.visits ≡ visits_of (tree_rows s.rows) (slice_index (order (tree_rows s.rows)) p) }
+        → v.visits ≡ visits_of (tree_rows s.rows) (row_at s p) }
     ensures registers { (s : SegmentValue) (p : ℕ) (v : Slave) → IsLegal s → slice_get (started_segment s).slaves p ≡ Some v
-        → let r = slice_index (order (tree_rows s.rows)) p in v.registers ≡ registers_of (slice_index_or s.rows r no_row).kind (status_of (tree_rows s.rows) r) }
+        → v.registers ≡ registers_of (row_of s (row_at s p)).kind (status_of (tree_rows s.rows) (row_at s p)) }
     ensures clock { (s : SegmentValue) (p : ℕ) (v : Slave) → IsLegal s → slice_get (started_segment s).slaves p ≡ Some v
-        → let row = slice_index_or s.rows (slice_index (order (tree_rows s.rows)) p) no_row in v.timing ≡ timing_by row.kind s.head.cycles row }
+        → let row = row_of s (row_at s p) in v.timing ≡ timing_by row.kind s.head.cycles row }
 {}
 
 /// A frame visits each slave in turn: it arrives, and then comes back into the ports 3, 1 and 2, as far as they are

@@ -9,9 +9,8 @@ use Rattle.master_script.specs.Words.{Words, delay_at, delays_of}
 use Rattle.segment_bounds.specs.Bounds.{delay_at as true_delay_at, delay_bound_at}
 use Rattle.segment_bounds.proofs.Exported.{delay_short, small_copy_bound}
 use Rattle.segment_file.specs.Legal.{IsLegal}
-use Rattle.segment_file.specs.Segment.{SegmentValue}
+use Rattle.segment_file.specs.Segment.{SegmentValue, row_at}
 use Rattle.segment_file.proofs.Exported.{row_within}
-use Rattle.honest_runs.specs.FileSlaves.{row_at}
 use Rattle.run_of_file.specs.MasterOfFile.{master_of}
 use Rattle.run_of_file.specs.RunOfFile.{RunEnd, commissioned}
 use Rattle.delay_law.proofs.Exported.{commissioned_near, kept_delays}

@@ -24,7 +24,9 @@ use Rattle.named_slaves.specs.Mindful.{AreMindful}
 use Rattle.named_slaves.specs.Standing.{Stands, own_address}
 use Rattle.named_slaves.proofs.Exported.{Had, had_before, low_where, same_many, stands_at}
 use Rattle.honest_replies.specs.Told.{AreInOrder}
-use Rattle.latch_times.proofs.Exported.{AreFar, far_behind, far_left, each_after, sizes_of, sound_at}
+use Rattle.resting_clocks.specs.Far.{AreFar}
+use Rattle.resting_clocks.proofs.Exported.{far_behind, far_left, each_after}
+use Rattle.visit_laws.proofs.Exported.{sizes_of, sound_at}
 use Rattle.set_offsets.proofs.Registers.{HoldsOn, on_same, passed_on}
 use Rattle.set_offsets.proofs.Writing.{delay_set, offset_set}
 

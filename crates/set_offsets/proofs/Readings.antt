@@ -25,13 +25,13 @@ use Rattle.master_script.specs.Progress.{progress}
 use Rattle.master_script.specs.Slaves.{SlaveWords, is_clock, is_measuring, judged_clocks, judged_tree, judgement, tree_told}
 use Rattle.master_script.specs.Words.{Words, delay_at, delays_of, hung_of, hung_or_none, offset_at, unit_of, wide_at}
 use Rattle.segment_file.specs.Legal.{IsLegal}
-use Rattle.segment_file.specs.Segment.{SegmentValue, clock_at, measures_at}
+use Rattle.segment_file.specs.Segment.{SegmentValue, clock_at, measures_at, row_at}
 use Rattle.segment_shape.specs.Slaves.{has_clock, measures}
-use Rattle.honest_runs.specs.FileSlaves.{kind_at, row_at, status_at}
+use Rattle.honest_runs.specs.FileSlaves.{kind_at, status_at}
 use Rattle.honest_runs.proofs.Exported.{judged_ok, row_has}
 use Rattle.run_of_file.specs.MasterOfFile.{master_of}
 use Rattle.run_of_file.specs.RunOfFile.{RunEnd, commissioned}
-use Rattle.latch_times.specs.Resting.{row_there, shown_at}
+use Rattle.resting_clocks.specs.Resting.{row_there, shown_at}
 use Rattle.latch_times.proofs.Exported.{late, told, first_clock, wide_told}
 use Rattle.set_offsets.specs.SinceLatch.{latch_arrival}
 

@@ -11,7 +11,7 @@ use Rattle.ecat_link.specs.Serves.{Send, Sends}
 use Rattle.ecat_link.proofs.Exported.{driven}
 use Rattle.esc_regs.specs.RegisterTable.{is_wide}
 use Rattle.segment_file.specs.Legal.{IsLegal}
-use Rattle.segment_file.specs.Segment.{SegmentValue, clock_at}
+use Rattle.segment_file.specs.Segment.{SegmentValue, clock_at, row_at}
 use Rattle.segment_shape.specs.Slaves.{has_clock}
 use Rattle.segment_start.specs.Start.{slave_of, started_segment}
 use Rattle.segment_start.proofs.Exported.{as_many, stands_at}
@@ -31,11 +31,12 @@ use Rattle.master_script.proofs.Exported.{progress_push}
 use Rattle.named_slaves.proofs.Exported.{had_before, low_where, same_many}
 use Rattle.honest_replies.specs.Told.{IsMeant}
 use Rattle.honest_replies.proofs.Exported.{mindful_step}
-use Rattle.honest_runs.specs.FileSlaves.{kind_at, row_at, status_at}
+use Rattle.honest_runs.specs.FileSlaves.{kind_at, status_at}
 use Rattle.honest_runs.proofs.Exported.{IsLate, row_has, came_back}
 use Rattle.run_of_file.specs.MasterOfFile.{master_of}
 use Rattle.run_of_file.specs.RunOfFile.{RunEnd, commissioned, turns}
-use Rattle.latch_times.proofs.Exported.{at_end, late as late_at_end, latched, AreFar, IsFirst, IsJudged, IsLatched, IsMeasuring, IsOpen}
+use Rattle.resting_clocks.specs.Far.{AreFar}
+use Rattle.latch_times.proofs.Exported.{at_end, late as late_at_end, latched, IsFirst, IsJudged, IsLatched, IsMeasuring, IsOpen}
 use Rattle.latch_times.proofs.Exported.{IsUnjudged, first_asked, rate_asked, reading_steps, wide_told, IsAsked, IsOnWay, after_is, asks}
 use Rattle.latch_times.proofs.Exported.{first_clock, late_of, phase, sends_step, starts, unrefused, walk}
 use Rattle.set_offsets.specs.HeldOffsets.{AreSet, HoldsSet}

@@ -19,13 +19,15 @@ use Rattle.visit_laws.proofs.Exported.{time_then}
 use Rattle.master_script.specs.Progress.{progress}
 use Rattle.master_script.specs.Words.{Words, delay_at, offset_at}
 use Rattle.segment_file.specs.Legal.{IsLegal}
-use Rattle.segment_file.specs.Segment.{RowValue, SegmentValue, clock_at, oscillator}
+use Rattle.segment_file.specs.Segment.{RowValue, SegmentValue, clock_at, oscillator, row_at}
 use Rattle.named_slaves.proofs.Exported.{low_where}
-use Rattle.honest_runs.specs.FileSlaves.{row_at}
 use Rattle.run_of_file.specs.MasterOfFile.{master_of}
 use Rattle.run_of_file.specs.RunOfFile.{RunEnd, commissioned}
-use Rattle.latch_times.specs.Resting.{Rests, row_there, shown_at, time_at}
-use Rattle.latch_times.proofs.Exported.{way_of, IsFixed, keeps_there, kind_there, measures_there, counts_on, IsOnWay, sound_at}
+use Rattle.resting_clocks.specs.Resting.{Rests, row_there, shown_at, time_at}
+use Rattle.resting_clocks.specs.OfFile.{IsFixed}
+use Rattle.resting_clocks.proofs.Exported.{keeps_there, kind_there, measures_there, counts_on}
+use Rattle.latch_times.proofs.Exported.{way_of, IsOnWay}
+use Rattle.visit_laws.proofs.Exported.{sound_at}
 use Rattle.set_offsets.specs.HeldOffsets.{HoldsSet}
 use Rattle.set_offsets.specs.SinceLatch.{counted_ns, latch_arrival}
 use Rattle.set_offsets.proofs.Delays.{delay_few}

@@ -2,9 +2,8 @@
 use Rattle.std.specs.Prelude.{◌≡◌, ℕ, true, false, List, Some, slice_get}
 use Rattle.esc_regs.specs.RegisterFile.{Registers}
 use Rattle.frame_pass.specs.SlaveState.{Slave, delay, offset}
-use Rattle.segment_file.specs.Segment.{SegmentValue, clock_at}
+use Rattle.segment_file.specs.Segment.{SegmentValue, clock_at, row_at}
 use Rattle.master_script.specs.Words.{Words, delay_at, offset_at}
-use Rattle.honest_runs.specs.FileSlaves.{row_at}
 use Rattle.run_of_file.specs.MasterOfFile.{master_of}
 
 -- a slave holds this offset and this delay, in ns

@@ -9,11 +9,11 @@ use Rattle.cable_tree.specs.FrameOrder.{order}
 use Rattle.cable_tree.proofs.Exported.{every_row, order_once}
 use Rattle.dc_bounds.specs.Weight.{flag}
 use Rattle.dc_delay.specs.ShapeRows.{positions}
-use Rattle.lost_step.specs.LostStep.{arm_steps, clock_positions, commission_steps, measuring_positions, row_at}
+use Rattle.lost_step.specs.LostStep.{arm_steps, clock_positions, commission_steps, measuring_positions}
 use Rattle.master_script.specs.declared.step.Step.{Step}
 use Rattle.master_script.specs.declared.step.Step.TheVariants.{Identify, Rate, Latch, Times, Set, Arm}
 use Rattle.segment_file.specs.Legal.{IsLegal}
-use Rattle.segment_file.specs.Segment.{RowValue, SegmentValue, clocks, is_clock, is_measuring, measuring, tree_row, tree_rows}
+use Rattle.segment_file.specs.Segment.{RowValue, SegmentValue, clocks, is_clock, is_measuring, measuring, row_at, tree_row, tree_rows}
 use Rattle.segment_file.proofs.Exported.{order_many, row_within}
 use Rattle.step_counts.proofs.Places.{apart_test, as_many_pass, places_pass}
 

@@ -33,3 +33,6 @@ pub use Rattle.visit_laws.proofs.Asides.{idle, apart_where_written, is_plain, le
 
 -- What a datagram stores.
 pub use Rattle.visit_laws.proofs.Storage.{stores_number}
+
+-- Sound slaves, one by one.
+pub use Rattle.visit_laws.proofs.Sound.{sound_at, sizes_of}

@@ -11,4 +11,5 @@ mod Stations
 mod Resting
 mod Asides
 mod Storage
+mod Sound
 pub mod Exported

@@ -74,7 +74,8 @@ pub fn drift_at_slave()
         → time_in (datagram_after s d) ≡ system_time (record { registers = s.registers; timing = m }) % 2 ^ 32 }
     ensures addressed { (s : Slave) (d : DatagramValue) → IsDrift d → (d.head.adp == station s.registers) ≡ true → (slave_after s d ≡ s) × (events_by s d ≡ []) }
     ensures refused { (s : Slave) (d : DatagramValue) → is_refused_by s d ≡ true → (slave_after s d ≡ s) × (events_by s d ≡ []) × ((datagram_after s d).payload ≡ d.payload) }
-    ensures kinds { (is_refused ClockKind.None 0x0910 4 ≡ true) × (is_refused ClockKind.R32 0x0910 4 ≡ true) × (is_refused ClockKind.C32 0x0910 4 ≡ false) × (is_refused ClockKind.C64 0x0910 4 ≡ false) }
+    ensures kinds { (is_refused ClockKind.None 0x0910 4 ≡ true) × (is_refused ClockKind.R32 0x0910 4 ≡ true)
+        × (is_refused ClockKind.C32 0x0910 4 ≡ false) × (is_refused ClockKind.C64 0x0910 4 ≡ false) }
 {}
 
 /// What a drift frame brings a slave, whose other datagrams write neither the system time nor the speed: one difference at

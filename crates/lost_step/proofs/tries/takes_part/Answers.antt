@@ -1,8 +1,7 @@
 use Rattle.std.proofs.Common.{◌≡◌, ◌∙◌, get_or, ap, sym, inl, inr}
 use Rattle.segment_shape.specs.Slaves.{measures, has_clock}
-use Rattle.segment_file.specs.Segment.{is_clock, is_measuring, clock_at, measures_at}
+use Rattle.segment_file.specs.Segment.{is_clock, is_measuring, clock_at, measures_at, row_at}
 use Rattle.segment_file.specs.declared.slave_row.SlaveRow.{SlaveRow}
-use Rattle.lost_step.specs.LostStep.{row_at}
 use Rattle.lost_step.specs.Rounds.{takes_part}
 use Rattle.lost_step.proofs.Rows.{row_flag}
 use Rattle.lost_step.proofs.tries.takes_part.Goals as goal

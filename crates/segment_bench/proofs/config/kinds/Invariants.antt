@@ -1,5 +1,6 @@
 use Rattle.std.proofs.Common.{◌≡◌, map, take}
-use Rattle.run_of_file.specs.MasterOfFile.{kind_of, row_of}
+use Rattle.segment_file.specs.Segment.{row_of}
+use Rattle.run_of_file.specs.MasterOfFile.{kind_of}
 use Rattle.segment_bench.proofs.config.kinds.Given as goal
 
 abbrev pub invariant-loop-row : goal.invariant-loop-row

@@ -5,9 +5,9 @@ use Rattle.set_offsets.proofs.laws.offsets_are_set.Goals as goal
 pub returns : goal.returns
 returns c = record {
   start = λ s p v legal. all_none_first s legal p v;
-  commissioned = λ s run legal. commissioned_set s legal run;
-  settled = λ s first run legal was ok. settled_set s legal first was ok run;
-  armed = λ s first run legal was ok. armed_set s legal first was ok run;
-  ran = λ s first run legal was ok. ran_set s legal first was ok run;
-  whole = λ s first run legal was ok. whole_set s legal first was ok run;
+  commissioned = λ s run it. commissioned_set s it.legal run it.is it.ok;
+  settled = λ s first run it. settled_set s it.legal first it.is it.ok run;
+  armed = λ s first run it. armed_set s it.legal first it.is it.ok run;
+  ran = λ s first run it. ran_set s it.legal first it.is it.ok run;
+  whole = λ s first run it. whole_set s it.legal first it.is it.ok run;
 }

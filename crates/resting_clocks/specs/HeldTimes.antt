@@ -5,7 +5,7 @@ use Rattle.cable_tree.specs.declared.port.Port.TheVariants.{P1, P2, P3}
 use Rattle.dc_topology.specs.Listed.{port_number}
 use Rattle.frame_pass.specs.SlaveState.{Slave, Visits, holds}
 use Rattle.segment_file.specs.Segment.{RowValue, SegmentValue}
-use Rattle.latch_times.specs.Resting.{row_there, shown_at}
+use Rattle.resting_clocks.specs.Resting.{row_there, shown_at}
 
 -- when a frame comes back into a port, in fs from its sending on
 abbrev pub back_into : Visits → Port → Option ℕ

@@ -2,9 +2,7 @@
 use Rattle.std.specs.Prelude.{◌≡◌, ℕ, ◌+◌, ◌*◌, ◌%◌, ◌^◌, List, Some, IfSome, pos, slice_get}
 use Rattle.osc_clock.specs.Ticks.{ticks}
 use Rattle.frame_pass.specs.SlaveState.{Slave, Timing, width}
-use Rattle.segment_file.specs.Segment.{RowValue, SegmentValue, oscillator}
-use Rattle.run_of_file.specs.MasterOfFile.{row_of}
-use Rattle.honest_runs.specs.FileSlaves.{row_at}
+use Rattle.segment_file.specs.Segment.{RowValue, SegmentValue, oscillator, row_at, row_of}
 
 -- the local time of the clock of a row at t, without wrap: its start, and 10 ns for each tick
 abbrev pub time_at : RowValue → ℕ → ℕ

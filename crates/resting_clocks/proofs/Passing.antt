@@ -19,9 +19,9 @@ use Rattle.frame_pass.proofs.Exported.{fixed_passed, of_passed, of_start, HasSiz
 use Rattle.visit_laws.specs.ReceiveTimes.{AreInTurn, AreReceiveTimes, IsReceiveTime, port_time, until}
 use Rattle.visit_laws.specs.Rest.{AreResets}
 use Rattle.visit_laws.proofs.Exported.{quiet_passed, goes_behind, latched_passed, resets_passed}
-use Rattle.latch_times.specs.Resting.{Rests, shown_at}
-use Rattle.latch_times.specs.HeldTimes.{HoldsTimes, back_into, port_register}
-use Rattle.latch_times.proofs.Resting.{Counts, counts_at}
+use Rattle.resting_clocks.specs.Resting.{Rests, shown_at}
+use Rattle.resting_clocks.specs.HeldTimes.{HoldsTimes, back_into, port_register}
+use Rattle.resting_clocks.proofs.Resting.{Counts, counts_at}
 
 -- a slave of a row, before a frame that is sent then, whose clock rests
 pub record Resting (row : RowValue) (sent : ℕ) (v : Slave) (m : Timing) : Type 0 where

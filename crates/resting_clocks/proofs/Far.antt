@@ -6,17 +6,15 @@ use Rattle.frame_pass.specs.SlaveState.{Slave, station}
 use Rattle.frame_pass.specs.DatagramAtSlave.{slave_after}
 use Rattle.frame_pass.specs.FramePass.{datagrams_behind}
 use Rattle.frame_pass.specs.PlainRegisters.{AreLeft}
-use Rattle.visit_laws.specs.Aside.{AreAside, HaveSize, never_writes}
+use Rattle.visit_laws.specs.Aside.{HaveSize, never_writes}
 use Rattle.visit_laws.proofs.Exported.{apart_where_written, aside_behind}
 use Rattle.master_script.specs.Config.{ConfigValue}
+use Rattle.master_script.specs.Frames.{latch_datagrams}
 use Rattle.master_script.specs.Steps.{datagrams_of}
 use Rattle.master_script.specs.Words.{Words}
 use Rattle.master_script.specs.declared.step.Step.{Step}
 use Rattle.master_script.specs.declared.step.Step.TheVariants.{Count, Identify, Rate, Latch, Times, Set, Settle, Drift, Arm}
-
--- they are aside of the place at a slave of any station address
-abbrev pub AreFar : ℕ → ℕ → List DatagramValue → Type 0
-AreFar at n ds = (own : ℕ) → AreAside at n own ds
+use Rattle.resting_clocks.specs.Far.{AreFar}
 
 pub far_behind : (at n p sent : ℕ) (ss : List Slave) (ds : List DatagramValue) → HaveSize ss → AreFar at n ds → AreFar at n (datagrams_behind p sent ss ds)
 far_behind at n p sent ss ds sizes far own = aside_behind at n own p sent ss ds sizes (far own)
@@ -44,12 +42,15 @@ IsReading (Set p) = ⊤
 IsReading step = ⊥
 
 -- none of them writes the low half of the system time
+pub latch_far : AreFar 0x0910 4 latch_datagrams
+latch_far own = (inr (inr (inl (omega arith))), tt)
+
 pub far_time : (cfg : ConfigValue) (w : Words) (step : Step) → IsCommissioning step → AreFar 0x0910 4 (datagrams_of cfg w step)
 unfolding never_writes
 far_time cfg w Count h own = (inl refl, tt)
 far_time cfg w (Identify p) h own = (inr (inr (inl (omega arith))), (inl refl, (inl refl, (inl refl, tt))))
 far_time cfg w Rate h own = (inr (inr (inr (omega arith))), tt)
-far_time cfg w Latch h own = (inr (inr (inl (omega arith))), tt)
+far_time cfg w Latch h own = latch_far own
 far_time cfg w (Times p) h own = (inl refl, (inl refl, tt))
 far_time cfg w (Set p) h own = (inr (inr (inr (omega arith))), (inr (inr (inr (omega arith))), tt))
 far_time cfg w Settle h own = absurd h

@@ -14,17 +14,18 @@ use Rattle.esc_regs.specs.declared.clock_kind.ClockKind.TheVariants as kind
 use Rattle.osc_clock.specs.Ticks.{IsRunning}
 use Rattle.segment_shape.specs.Slaves.{greatest_start, measures}
 use Rattle.segment_file.specs.Legal.{IsClock, IsLegal, KeepsTime}
-use Rattle.segment_file.specs.Segment.{RowValue, SegmentValue, oscillator, tree_rows}
+use Rattle.segment_file.specs.Segment.{RowValue, SegmentValue, no_row, oscillator, row_at, tree_rows}
 use Rattle.segment_file.proofs.Exported.{legal_clocks, row_within}
-use Rattle.segment_start.specs.Start.{no_row, registers_of, slave_of, started_segment, timing_by, visits_of}
+use Rattle.segment_start.specs.Start.{registers_of, slave_of, started_segment, timing_by, visits_of}
 use Rattle.segment_start.proofs.Exported.{as_many, stands_at, row_in_turn}
 use Rattle.frame_pass.specs.SlaveState.{Slave, Timing, Visits, fixed_part, width}
 use Rattle.named_slaves.proofs.Exported.{low_where}
 use Rattle.visit_laws.specs.ReceiveTimes.{AreInTurn}
-use Rattle.honest_runs.specs.FileSlaves.{kind_at, row_at}
-use Rattle.latch_times.specs.Resting.{AllRest, Rests, row_there, shown_at}
-use Rattle.latch_times.specs.HeldTimes.{back_into}
-use Rattle.latch_times.proofs.Stepping.{AtEach}
+use Rattle.honest_runs.specs.FileSlaves.{kind_at}
+use Rattle.resting_clocks.specs.Resting.{AllRest, Rests, row_there, shown_at}
+use Rattle.resting_clocks.specs.HeldTimes.{back_into}
+use Rattle.resting_clocks.specs.OfFile.{IsFixed}
+use Rattle.resting_clocks.proofs.Stepping.{AtEach}
 
 some_same : {X : Type 0} {x y : X} → Some x ≡ Some y → x ≡ y
 some_same e = cc
@@ -80,10 +81,6 @@ same_back : (v : Visits) (rows : List Row) (r : ℕ) → v ≡ visits_of rows r 
 same_back v rows r e P1 = ap (λ (z : Visits). z.back1) e
 same_back v rows r e P2 = ap (λ (z : Visits). z.back2) e
 same_back v rows r e P3 = ap (λ (z : Visits). z.back3) e
-
--- what never changes of a slave is as its row has it
-abbrev pub IsFixed : SegmentValue → ℕ → Slave → Type 0
-IsFixed s q v = fixed_part v ≡ fixed_part (slave_of s (row_at s q))
 
 module _ (s : SegmentValue) (legal : IsLegal s) where
   slave_there : (q : ℕ) (v : Slave) → slice_get (started_segment s).slaves q ≡ Some v → v ≡ slave_of s (row_at s q)

@@ -1,7 +1,6 @@
 -- From each slave to all, over one sending.
-use Rattle.std.proofs.Common.{◌≡◌, ℕ, zero, suc, ◌+◌, ◌<◌, ◌≤◌, List, [], ◌∷◌, length, Option, Some, sym, ap, subst, ◌∙◌, arith, inl, inr}
+use Rattle.std.proofs.Common.{◌≡◌, ℕ, ◌+◌, ◌<◌, ◌≤◌, List, length, Option, Some, sym, ap, subst, ◌∙◌, arith, inl, inr}
 use Rattle.std.specs.Prelude.{IfSome, slice_get}
-use Rattle.std.specs.List.{AllByRecursion}
 use Rattle.std.proofs.lemmas.Bool.{cases_lt}
 use Rattle.ecat_frame.specs.FrameGrammar.{FrameValue}
 use Rattle.frame_pass.specs.SlaveState.{Slave, Timing}
@@ -10,7 +9,6 @@ use Rattle.frame_pass.specs.Invariants.{IsSound}
 use Rattle.frame_pass.specs.Reach.{reach_of}
 use Rattle.frame_pass.specs.SegmentState.{SegmentState, leaves_at, segment_step}
 use Rattle.frame_pass.proofs.Exported.{step_reached, step_stays, is_not_sent}
-use Rattle.visit_laws.specs.Aside.{HaveSize}
 use Rattle.named_slaves.proofs.Exported.{had_before, low_where, same_many}
 
 some_same : {X : Type 0} {x y : X} → Some x ≡ Some y → x ≡ y
@@ -19,16 +17,6 @@ some_same e = cc
 -- what each slave at its position has
 abbrev pub AtEach : (ℕ → Slave → Type 0) → List Slave → Type 0
 AtEach P ss = (q : ℕ) (v : Slave) → slice_get ss q ≡ Some v → P q v
-
--- sound slaves, one by one
-pub sound_at : (trip free : ℕ) (ss : List Slave) (q : ℕ) (v : Slave) → AllByRecursion (IsSound trip free) ss → slice_get ss q ≡ Some v → IsSound trip free v
-sound_at trip free [] q v sound is = absurd (let z = is in cc)
-sound_at trip free (s ∷ ss) zero v sound is = subst (IsSound trip free) (some_same is) sound.0
-sound_at trip free (s ∷ ss) (suc q) v sound is = sound_at trip free ss q v sound.1 is
-
-pub sizes_of : (trip free : ℕ) (ss : List Slave) → AllByRecursion (IsSound trip free) ss → HaveSize ss
-sizes_of trip free [] sound = tt
-sizes_of trip free (s ∷ ss) sound = (sound.0.size, sizes_of trip free ss sound.1)
 
 -- a sound slave stands by the arrival of the next frame
 pub early_at : (s : SegmentState) (wait_ns : ℕ) (v : Slave) (m : Timing) → IsSound s.round_trip s.free v → v.timing ≡ Some m → m.clock.instant ≤ leaves_at s wait_ns + v.visits.arrive

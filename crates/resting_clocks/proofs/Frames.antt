@@ -12,19 +12,21 @@ use Rattle.frame_pass.specs.Invariants.{IsSoundSegment}
 use Rattle.frame_pass.specs.Reach.{reach_of}
 use Rattle.frame_pass.specs.SegmentState.{SegmentState, leaves_at, segment_step}
 use Rattle.frame_pass.proofs.Exported.{fixed_passed}
-use Rattle.visit_laws.proofs.Exported.{never_latching}
+use Rattle.visit_laws.proofs.Exported.{never_latching, sizes_of, sound_at}
 use Rattle.master_script.specs.Frames.{latch_datagrams}
 use Rattle.honest_replies.proofs.Exported.{latch_for_measuring}
 use Rattle.honest_runs.specs.FileSlaves.{kind_at}
 use Rattle.honest_runs.proofs.Exported.{CameBack}
 use Rattle.named_slaves.proofs.Exported.{low_where}
-use Rattle.latch_times.specs.Resting.{AllRest, Rests, row_there}
-use Rattle.latch_times.specs.HeldTimes.{AllHold, HoldsTimes}
-use Rattle.latch_times.proofs.Far.{AreFar, far_behind, far_left}
-use Rattle.latch_times.proofs.LatchFrames.{latch_frame}
-use Rattle.latch_times.proofs.Passing.{Resting, holds_latched, holds_passed, rests_passed}
-use Rattle.latch_times.proofs.Places.{IsFixed, keeps_there, kind_there, measures_there, none_stays, turn_there}
-use Rattle.latch_times.proofs.Stepping.{AtEach, early_at, each_after, sizes_of, sound_at}
+use Rattle.resting_clocks.specs.Resting.{AllRest, Rests, row_there}
+use Rattle.resting_clocks.specs.HeldTimes.{AllHold, HoldsTimes}
+use Rattle.resting_clocks.specs.Far.{AreFar}
+use Rattle.resting_clocks.specs.OfFile.{IsFixed}
+use Rattle.resting_clocks.proofs.Far.{far_behind, far_left}
+use Rattle.resting_clocks.proofs.LatchFrames.{latch_frame}
+use Rattle.resting_clocks.proofs.Passing.{Resting, holds_latched, holds_passed, rests_passed}
+use Rattle.resting_clocks.proofs.Places.{keeps_there, kind_there, measures_there, none_stays, turn_there}
+use Rattle.resting_clocks.proofs.Stepping.{AtEach, early_at, each_after}
 
 -- where there is no clock, nothing is said
 none_says : (P : Timing → Type 0) (o : Option Timing) → o ≡ None → IfSome o P

@@ -1,0 +1,4 @@
+pub mod Resting
+pub mod HeldTimes
+pub mod OfFile
+pub mod Far
