@@ -1,4 +1,4 @@
-ghost use Rattle.std.specs.Prelude.{◌≤◌, IfOk, IfSome, length};
+ghost use Rattle.std.specs.Prelude.{◌≤◌, IfOk, IfSome};
 ghost use Rattle.master_steps.specs.ConfigRange.{IsConfig, IsKind, IsPlan, IsSync1, value_of};
 ghost use Rattle.frame_cases.specs.Slaves.{AreSlaves};
 
