@@ -1,13 +1,13 @@
 #!/usr/bin/env bash
 # Measures what one frame costs at one slave: 20,000 drift frames, one each ms, over a line of 256 clocks whose units are armed with
-# a cycle of 122 ms, through `Wire::exchange` and the few lines of `wire_cases` around it. The time of making the wire is taken off.
+# a cycle of 122 ms, through `Wire::exchange` and the few lines of `frame_cases` around it. The time of making the wire is taken off.
 # The best wall clock of five runs counts.
 #
 # wire.sh PROGRAM times beside it, by turns, a plain Rust program of the same behaviour, given by its path: its command `run` over such
 # a segment with 97,748 frames, the master's side and the report among it.
 set -eu
 here=$(cd "$(dirname "${BASH_SOURCE[0]}")" && pwd)
-program=$here/../crates/wire_cases/out/wire_cases
+program=$here/../crates/frame_cases/out/frame_cases
 [ -x "$program" ] || { echo "bench: .ci/run leaves the proved program that this measures" >&2; exit 1; }
 other=${1:-}
 dir=$(mktemp -d)
@@ -25,6 +25,7 @@ awk 'BEGIN {
 
 # wire TIMES: the actions of a wire over which so many drift frames go
 wire() {
+    echo "table wires"
     echo "segment $(cat "$dir/segment")"
     echo "send 1000000 APWR:0000:0010:0110"
     echo "send 1000000 BWR:0000:09a0:000e450700000000,BWR:0000:0981:03"

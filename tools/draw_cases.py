@@ -1,10 +1,11 @@
 #!/usr/bin/env python3
-"""Writes the table of crates/draw_cases and its right answers, its `stdin` and `stdout`.
+"""Writes the table `draws` of crates/segment_cases and its right answers.
 
 Segments are drawn and written here by docs/FORMATS.md, "Drawn segments" and "Written files", by no more than is said there.
 """
 import json
-import pathlib
+
+from stored import store
 
 MODULUS = 2**31 - 1
 HEAD = {"version": 1, "ppm": 50, "frame_ns": 1000000, "speed": 4096, "loss_run": 2, "losses": [], "epoch_ns": 800000000000000000, "cycle_ns": 1000000, "cycles": 4}
@@ -53,9 +54,8 @@ def generated(count, seed):
 
 
 def main():
-    folder = pathlib.Path(__file__).parent.parent / "crates" / "draw_cases"
-    (folder / "stdin").write_text("".join(f"{count} {seed}\n" for count, seed in CASES))
-    (folder / "stdout").write_text("".join(generated(count, seed) + "\n\n" for count, seed in CASES))
+    cases = "".join(f"{count} {seed}\n" for count, seed in CASES)
+    store("segment_cases", "draws", cases, "".join(generated(count, seed) + "\n\n" for count, seed in CASES))
 
 
 main()

@@ -1,15 +1,15 @@
 #!/usr/bin/env python3
-"""Writes the table of crates/frame_cases and its right answers, its `stdin` and `stdout`.
+"""Writes the table `cases` of crates/frame_cases and its right answers.
 
-The lines of `stdin` down to the line MARK are by hand and stay; what stands behind it is made here: frames at every place of their
+The lines of the table down to the line MARK are by hand and stay; what stands behind it is made here: frames at every place of their
 grammar, and the cases of register_cases.py and clock_cases.py. All answers to frames, also those to the lines by hand, are worked out
 here from docs/FORMATS.md, "Frames", and docs/DEFINITIONS.md, "Frames" and "Links", by no more than is said there.
 """
-import pathlib
 import random
 
 import clock_cases
 import register_cases
+import stored
 
 MARK = "# from here on by tools/frame_cases.py"
 NAMES = "Nop Aprd Apwr Aprw Fprd Fpwr Fprw Brd Bwr Brw Lrd Lwr Lrw Armw Frmw".split()
@@ -294,11 +294,9 @@ def table(by_hand):
 
 
 def main():
-    crate = pathlib.Path(__file__).parent.parent / "crates" / "frame_cases"
-    by_hand = (crate / "stdin").read_text().split("\n" + MARK)[0].split("\n")
+    by_hand = stored.table("frame_cases", "cases").split("\n" + MARK)[0].split("\n")
     rows = list(table(by_hand))
-    for name, side in [("stdin", 0), ("stdout", 1)]:
-        (crate / name).write_text("".join(row[side] + "\n" for row in rows))
+    stored.store("frame_cases", "cases", *("".join(row[side] + "\n" for row in rows) for side in (0, 1)))
 
 
 if __name__ == "__main__":

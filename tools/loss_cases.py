@@ -1,12 +1,13 @@
 #!/usr/bin/env python3
-"""Writes the table of crates/loss_cases and its right answers, its `stdin` and `stdout`.
+"""Writes the table `losses` of crates/segment_cases and its right answers.
 
 Which numbers are the tries of which step is worked out here try by try, from docs/DEFINITIONS.md, "Lost step": a frame of commissioning or
 arming is sent up to three times, and each sending takes the next number of its phase. The lock-in count comes from "Bounds" there.
 """
 import json
-import pathlib
 import random
+
+from stored import store
 
 MEASURING = ('r32', 'c32', 'c64')
 CLOCKS = ('c32', 'c64')
@@ -167,15 +168,13 @@ def answer(command, segment):
 
 
 def main():
-    folder = pathlib.Path(__file__).resolve().parent.parent / 'crates' / 'loss_cases'
     asked, answers = [], []
     for remark, command, segment in table():
         asked.append(remark or command + ' ' + json.dumps(segment, separators=(',', ':')))
         answers.append(remark or answer(command, segment))
     asked += ['run', 'runs {}', 'delays {}']
     answers += ['unread', 'unread', 'refused']
-    (folder / 'stdin').write_text('\n'.join(asked) + '\n')
-    (folder / 'stdout').write_text('\n'.join(answers) + '\n')
+    store('segment_cases', 'losses', '\n'.join(asked) + '\n', '\n'.join(answers) + '\n')
 
 
 if __name__ == '__main__':

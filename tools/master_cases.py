@@ -1,15 +1,15 @@
 #!/usr/bin/env python3
-"""Writes the table of crates/master_cases and its right answers, its `stdin` and `stdout`.
+"""Writes the table `masters` of crates/frame_cases and its right answers.
 
 Slaves are played here, honest ones and others, and what a master sends to them, how it judges what comes back, and what it then keeps
 are worked out from docs/FORMATS.md, "The master's script", and docs/DEFINITIONS.md, by no more than is said there.
 """
-import pathlib
 import random
 from dataclasses import dataclass, field
 
 from frame_cases import Refused as NoFrame
 from frame_cases import datagrams, differ, frame_of
+from stored import store
 
 APWR, FPRD, FPWR, BRD, BWR, FRMW = 2, 4, 5, 7, 8, 14
 ORDER = (3, 1, 2)
@@ -591,10 +591,8 @@ def table():
 
 
 def main():
-    crate = pathlib.Path(__file__).parent.parent / "crates" / "master_cases"
     written = list(table())
-    for name, side in [("stdin", 0), ("stdout", 1)]:
-        (crate / name).write_text("".join(row[side] + "\n" for row in written))
+    store("frame_cases", "masters", *("".join(row[side] + "\n" for row in written) for side in (0, 1)))
 
 
 if __name__ == "__main__":

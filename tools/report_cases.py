@@ -1,12 +1,13 @@
 #!/usr/bin/env python3
-"""Writes the table of crates/report_cases and its right answers, its `stdin` and `stdout`.
+"""Writes the table `reports` of crates/segment_cases and its right answers.
 
 The texts are worked out from docs/FORMATS.md, "Output", and docs/DEFINITIONS.md, by no more than is said there: path sums by recursion,
-bounds by their formulas, spread and window over each pair of edges. What a line asks is said in crates/report_cases/src/main.rt.
+bounds by their formulas, spread and window over each pair of edges. What a line asks is said in crates/segment_cases/src/reports.rt.
 """
 import json
-import pathlib
 from itertools import combinations
+
+from stored import store
 
 PORTS = (3, 1, 2)
 HEAD = {"version": 1, "ppm": 0, "frame_ns": 1000000, "speed": 4096, "loss_run": 1, "epoch_ns": 800000000000000000, "cycle_ns": 1000000, "cycles": 3}
@@ -214,14 +215,12 @@ def cases():
 
 
 def main():
-    folder = pathlib.Path(__file__).parent.parent / "crates" / "report_cases"
     table, answers = "", ""
     for case in cases():
         *numbers, lines, file = case
         table += " ".join(map(str, numbers)) + (" lines " if lines else " plain ") + json.dumps(file, separators=(",", ":")) + "\n"
         answers += answer(*case)
-    (folder / "stdin").write_text(table)
-    (folder / "stdout").write_text(answers)
+    store("segment_cases", "reports", table, answers)
 
 
 main()

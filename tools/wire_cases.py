@@ -1,19 +1,17 @@
-"""The cases of wires for crates/wire_cases, and their right answers.
-
-    wire_cases.py stdin > crates/wire_cases/stdin
-    wire_cases.py stdout < crates/wire_cases/stdin > crates/wire_cases/stdout
+#!/usr/bin/env python3
+"""Writes the table `wires` of crates/frame_cases and its right answers.
 
 The answers are worked out here from docs/DEFINITIONS.md and docs/FORMATS.md: clocks tick by tick, as in clock_cases.py,
 registers by the table of register_cases.py, and slaves and frames in the words of "Frame pass" and "The cable tree".
-What a line asks is said in crates/wire_cases/src/main.rt.
+What a line asks is said in crates/frame_cases/src/wires.rt.
 """
 import json
 import random
-import sys
 
 import clock_cases
 import register_cases
 from register_cases import signed
+from stored import store
 
 PORTS = [3, 1, 2]
 READS = {"APRD", "APRW", "FPRD", "FPRW", "BRD", "BRW"}
@@ -395,16 +393,17 @@ def datagram(r, n):
     return f"{command}:{adp:04x}:{addr:04x}:{data.hex()}"
 
 
+def cases():
+    yield from by_hand()
+    r = random.Random(4)
+    yield "# segments and frames at random"
+    for _ in range(40):
+        yield from at_random(r)
+
+
 def main():
-    if sys.argv[1:] == ["stdin"]:
-        print("\n".join(by_hand()))
-        r = random.Random(4)
-        print("# segments and frames at random")
-        for _ in range(40):
-            print("\n".join(at_random(r)))
-    else:
-        for told in answers(line.rstrip("\n") for line in sys.stdin):
-            print(told)
+    lines = list(cases())
+    store("frame_cases", "wires", *("".join(line + "\n" for line in side) for side in (lines, answers(lines))))
 
 
 main()

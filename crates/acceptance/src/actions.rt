@@ -1,3 +1,18 @@
+//! Rows of the top call: what is done with it, one action a line.
+//!
+//! - `file JSON`: the input of the calls that follow.
+//! - `blanks N`: so many blanks as the input.
+//! - `chunk N`: the most bytes of one read and of one write from now on, 4096 before.
+//! - `fails READS WRITES`: the numbers of the reads and of the writes that fail in the calls that follow, commas between them, and `-`
+//!   for none.
+//! - `call WORDS`: calls the top call. The status, with the line for standard error where there is one, and how many reads and writes
+//!   have failed, where any did; the text that was written; and behind a run, whether `edge_report` makes the same text of the segment and
+//!   of the bench alone.
+//! - `read POSITION ADO SIZE`: what a frame would read of a slave of the bench that the last call has left, or `refused`.
+//! - `each WORDS`: the call again and again, over ends of which one read fails, each in turn, and then one write. How many there
+//!   were of both. Each such call has to answer 7 or 8, and to have written a front of the text.
+//! - Any other line: the line itself, as `# a run with edge rows`.
+
 use crate::call::{Called, call};
 use crate::each::each;
 use crate::ends::Ends;
@@ -6,8 +21,7 @@ use anyhow::{Context, bail};
 use dc_bench::Bench;
 use dc_top::Outcome;
 use esc_regs::Access;
-use std::alloc::Global;
-use std::fmt::Write;
+use std::alloc::{AllocError, Global};
 
 /// The answer to an action.
 pub(crate) fn answer(
@@ -67,31 +81,39 @@ fn called(
     let words = words_of(alloc, text)?;
     let called = call(alloc, &words, ends)?;
     let remade = remakes(alloc, &words, &ends.input, &called)?;
-    let told = told(alloc, &called, remade)?;
+    let mut told = String::new(alloc);
+    call_told(&called, remade, &mut told)?;
     *bench = called.bench;
     Ok(told)
 }
 
 // What a call has answered and written, in lines.
-fn told(alloc: Global, called: &Called, remade: Option<bool>) -> anyhow::Result<String> {
-    let (reads, writes) = called.faults;
-    let mut text = format!(in alloc; "{}", called.outcome.status())?;
-    if called.outcome != Outcome::Done {
-        write!(text, " {}", called.outcome)?;
-    }
-    if reads > 0 || writes > 0 {
-        write!(text, ", {reads} and {writes} failed")?;
-    }
-    match String::from_utf8(Vec::from_slice(alloc, &called.written)?) {
-        Ok(written) => write!(text, "\n{written}")?,
-        Err(_) => bail!("no text was written"),
+fn call_told(called: &Called, remade: Option<bool>, told: &mut String) -> Result<(), AllocError> {
+    end_told(called.outcome, called.faults, told)?;
+    match std::str::from_utf8(&called.written) {
+        Ok(written) => write!(told, "\n{written}")?,
+        Err(_) => told.push_str("\nno text was written")?,
     }
     match remade {
-        Some(true) => text.push_str("the same of segment and bench")?,
-        Some(false) => text.push_str("another one of segment and bench")?,
-        None => (),
+        Some(true) => told.push_str("the same of segment and bench"),
+        Some(false) => told.push_str("another one of segment and bench"),
+        None => Ok(()),
     }
-    Ok(text)
+}
+
+fn end_told(
+    outcome: Outcome,
+    (reads, writes): (u64, u64),
+    told: &mut String,
+) -> Result<(), AllocError> {
+    write!(told, "{}", outcome.status())?;
+    if outcome != Outcome::Done {
+        write!(told, " {outcome}")?;
+    }
+    if reads > 0 || writes > 0 {
+        write!(told, ", {reads} and {writes} failed")?;
+    }
+    Ok(())
 }
 
 fn read(alloc: Global, bench: &Option<Bench>, text: &str) -> anyhow::Result<String> {

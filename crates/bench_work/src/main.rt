@@ -14,6 +14,7 @@ mod clocks;
 mod trees;
 
 use clocks::{advanced, raise, visited};
+use std::alloc::Global;
 use std::process::ExitCode;
 use std::rt::Env;
 use std::{env, io};
@@ -40,25 +41,28 @@ fn words<R: Env + AllocGlobal>(rt: &R) -> io::Result<Vec<String>> {
 }
 
 fn run(rt: &HostRuntime, words: &[String]) -> Option<()> {
-    match words {
-        [what, time_fs, times] if what.as_str() == "advance" => {
-            let sum = advanced(time_fs.parse().ok()?, times.parse().ok()?)?;
+    let (what, numbers) = words.split_first()?;
+    match (what.as_str(), numbers) {
+        ("edges", [time_fs]) => edges(rt, time_fs.parse().ok()?),
+        (what, numbers) => {
+            let sum = sum_of(rt.alloc(), what, numbers)?;
             println!(rt; "{sum}").ok()
         }
-        [what, time_fs] if what.as_str() == "edges" => {
-            let mut list = EdgeList::new(rt.alloc(), 100_000).ok()?;
-            raise(time_fs.parse().ok()?, &mut list)?;
-            let last = list.edges().last()?;
-            println!(rt; "{} {}", list.edges().len(), last.time_fs).ok()
-        }
-        [what, frames, cycle] if what.as_str() == "wire" => {
-            let sum = visited(rt.alloc(), frames.parse().ok()?, cycle.parse().ok()?)?;
-            println!(rt; "{sum}").ok()
-        }
-        [what, times] if what.as_str() == "trees" => {
-            let sum = path_sums(rt.alloc(), times.parse().ok()?)?;
-            println!(rt; "{sum}").ok()
-        }
+    }
+}
+
+fn edges(rt: &HostRuntime, time_fs: u64) -> Option<()> {
+    let mut list = EdgeList::new(rt.alloc(), 100_000).ok()?;
+    raise(time_fs, &mut list)?;
+    let last = list.edges().last()?;
+    println!(rt; "{} {}", list.edges().len(), last.time_fs).ok()
+}
+
+fn sum_of(alloc: Global, what: &str, numbers: &[String]) -> Option<u64> {
+    match (what, numbers) {
+        ("advance", [time_fs, times]) => advanced(time_fs.parse().ok()?, times.parse().ok()?),
+        ("wire", [frames, cycle]) => visited(alloc, frames.parse().ok()?, cycle.parse().ok()?),
+        ("trees", [times]) => path_sums(alloc, times.parse().ok()?),
         _ => None,
     }
 }

@@ -55,26 +55,33 @@ fn push(
     })
 }
 
-fn command(name: &str) -> Option<Command> {
-    Some(match name {
-        "Nop" => Command::Nop,
-        "Aprd" => Command::Aprd,
-        "Apwr" => Command::Apwr,
-        "Aprw" => Command::Aprw,
-        "Fprd" => Command::Fprd,
-        "Fpwr" => Command::Fpwr,
-        "Fprw" => Command::Fprw,
-        "Brd" => Command::Brd,
-        "Bwr" => Command::Bwr,
-        "Brw" => Command::Brw,
-        "Lrd" => Command::Lrd,
-        "Lwr" => Command::Lwr,
-        "Lrw" => Command::Lrw,
-        "Armw" => Command::Armw,
-        "Frmw" => Command::Frmw,
-        _ => return None,
-    })
+/// The command of a name, in letters of either case.
+pub(crate) fn command(name: &str) -> Option<Command> {
+    for (known, command) in COMMANDS {
+        if known.eq_ignore_ascii_case(name) {
+            return Some(command);
+        }
+    }
+    None
 }
+
+const COMMANDS: [(&str, Command); 15] = [
+    ("Nop", Command::Nop),
+    ("Aprd", Command::Aprd),
+    ("Apwr", Command::Apwr),
+    ("Aprw", Command::Aprw),
+    ("Fprd", Command::Fprd),
+    ("Fpwr", Command::Fpwr),
+    ("Fprw", Command::Fprw),
+    ("Brd", Command::Brd),
+    ("Bwr", Command::Bwr),
+    ("Brw", Command::Brw),
+    ("Lrd", Command::Lrd),
+    ("Lwr", Command::Lwr),
+    ("Lrw", Command::Lrw),
+    ("Armw", Command::Armw),
+    ("Frmw", Command::Frmw),
+];
 
 fn change(alloc: Global, words: &mut Words<'_>, frame: &mut Frame) -> Result<(), AllocError> {
     let what = words.next();

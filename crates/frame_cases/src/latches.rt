@@ -3,7 +3,7 @@
 //! - `receive:D`, `expect:T`: `-`.
 //! - `sample:T:OFFSET`: the stamp that the ticks up to T bring, or `none`; the clock is advanced there.
 
-use crate::oscillators::oscillator;
+use crate::station::started;
 use crate::words::Words;
 use latch_unit::LatchUnit;
 use local_clock::LocalClock;
@@ -31,20 +31,25 @@ fn samples<W: ClockWord>(
     words: &mut Words<'_>,
     told: &mut String,
 ) -> Result<(), AllocError> {
-    let Some(osc) = oscillator(alloc, words)? else {
-        words.skip_all();
+    let Some(mut clock) = started::<W>(alloc, words)? else {
         return told.push_str("no oscillator");
     };
-    let start = W::cut(words.number(0, u64::MAX));
-    let mut clock = LocalClock::new(osc, start, words.number(1, 255) as u8);
-    let mut unit = LatchUnit::new();
     told.push_str("latch")?;
+    act_all(words, &mut clock, told)
+}
+
+fn act_all<W: ClockWord>(
+    words: &mut Words<'_>,
+    clock: &mut LocalClock<W>,
+    told: &mut String,
+) -> Result<(), AllocError> {
+    let mut unit = LatchUnit::new();
     for _action in 0..words.most() {
         if words.is_empty() {
             break;
         }
         told.push_str(" ")?;
-        act(words, &mut clock, &mut unit, told)?;
+        act(words, clock, &mut unit, told)?;
     }
     Ok(())
 }

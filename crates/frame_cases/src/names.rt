@@ -22,16 +22,22 @@ pub(crate) fn held(file: &RegFile, name: &str) -> Option<u64> {
     Some(match name {
         "station" => u64::from(file.get(Station::new())),
         "status" => u64::from(file.get(DlStatus::new())),
+        "activation" => u64::from(file.get(Activation::new())),
+        "start" => file.get(StartTime::new()),
+        "cycle" => u64::from(file.get(Sync0Cycle::new())),
+        "latched" => u64::from(file.get(Latch0Status::new())),
+        _ => return held_of_clock(file, name),
+    })
+}
+
+fn held_of_clock(file: &RegFile, name: &str) -> Option<u64> {
+    Some(match name {
         "port0" => u64::from(file.get(ReceivePort0::new())),
         "time" => file.get(SystemTime::new()),
         "offset" => file.get(Offset::new()),
         "delay" => u64::from(file.get(Delay::new())),
         "difference" => u64::from(file.get(Difference::new())),
         "speed" => u64::from(file.get(SpeedStart::new())),
-        "activation" => u64::from(file.get(Activation::new())),
-        "start" => file.get(StartTime::new()),
-        "cycle" => u64::from(file.get(Sync0Cycle::new())),
-        "latched" => u64::from(file.get(Latch0Status::new())),
         _ => return None,
     })
 }

@@ -1,5 +1,5 @@
 use crate::words::{Words, bytes_told};
-use ecat_frame::{Datagram, Frame};
+use ecat_frame::{Datagram, Frame, Head};
 use std::alloc::{AllocError, Global};
 
 /// The frame of these bytes, or why they are none.
@@ -26,18 +26,18 @@ fn frame_told(frame: &Frame, told: &mut String) -> Result<(), AllocError> {
 
 // Command, index, ADP, ADO, length word, IRQ, data and working counter.
 fn datagram_told(datagram: &Datagram<'_>, told: &mut String) -> Result<(), AllocError> {
-    let head = datagram.head;
-    write!(
-        told,
-        "; {:?} {} {:04x} {:04x}",
-        head.command, head.index, head.adp, head.ado
-    )?;
+    head_told(datagram.head, told)?;
     write!(told, " {:04x} {:04x} ", datagram.length_word, datagram.irq)?;
     if datagram.payload.is_empty() {
-        write!(told, "-")?;
+        told.push_str("-")?;
     }
     bytes_told(datagram.payload, told)?;
     write!(told, " {}", datagram.wkc)
+}
+
+fn head_told(head: Head, told: &mut String) -> Result<(), AllocError> {
+    write!(told, "; {:?} {}", head.command, head.index)?;
+    write!(told, " {:04x} {:04x}", head.adp, head.ado)
 }
 
 /// Where the second frame differs from the first.

@@ -12,7 +12,7 @@ use crate::oscillators::oscillator;
 use crate::words::Words;
 use local_clock::LocalClock;
 use std::alloc::{AllocError, Global};
-use sync_units::{EdgeList, Signal, SyncUnit};
+use sync_units::{Edge, EdgeList, Signal, SyncUnit};
 use wrap_time::{ClockWord, T32, T64};
 
 /// What a clock of 32 or 64 bits answers.
@@ -36,23 +36,43 @@ fn actions<W: ClockWord>(
     words: &mut Words<'_>,
     told: &mut String,
 ) -> Result<(), AllocError> {
-    let Some(osc) = oscillator(alloc, words)? else {
-        words.skip_all();
+    let Some(mut clock) = started::<W>(alloc, words)? else {
         return told.push_str("no oscillator");
     };
-    let start = W::cut(words.number(0, u64::MAX));
-    let mut clock = LocalClock::new(osc, start, words.number(1, 255) as u8);
-    let mut unit = SyncUnit::new();
     let Ok(mut list) = EdgeList::new(alloc, words.number(0, 100_000) as u32) else {
         return Err(AllocError);
     };
     told.push_str("clock")?;
+    act_all(words, &mut clock, &mut list, told)
+}
+
+/// The clock that comes next in a case, as it starts.
+pub(crate) fn started<W: ClockWord>(
+    alloc: Global,
+    words: &mut Words<'_>,
+) -> Result<Option<LocalClock<W>>, AllocError> {
+    let Some(osc) = oscillator(alloc, words)? else {
+        words.skip_all();
+        return Ok(None);
+    };
+    let start = W::cut(words.number(0, u64::MAX));
+    let speed = words.number(1, 255) as u8;
+    Ok(Some(LocalClock::new(osc, start, speed)))
+}
+
+fn act_all<W: ClockWord>(
+    words: &mut Words<'_>,
+    clock: &mut LocalClock<W>,
+    list: &mut EdgeList,
+    told: &mut String,
+) -> Result<(), AllocError> {
+    let mut unit = SyncUnit::new();
     for _action in 0..words.most() {
         if words.is_empty() {
             break;
         }
         told.push_str(" ")?;
-        act(words, &mut clock, &mut unit, &mut list, told)?;
+        act(words, clock, &mut unit, list, told)?;
     }
     Ok(())
 }
@@ -85,24 +105,40 @@ fn tell<W: ClockWord>(
     told: &mut String,
 ) -> Result<(), AllocError> {
     match asked {
-        "advance" => {
-            clock.advance(words.number(clock.now(), u64::MAX));
-            write!(told, "{}/{}", clock.reading().value(), clock.left())
-        }
+        "advance" => advance(words, clock, told),
         "next" => number_told(clock.next_tick(), told),
-        "first" => number_told(
-            clock.first_reaching(W::cut(words.number(0, u64::MAX))),
-            told,
-        ),
-        "due" => match unit.next_due() {
-            Some(due) => number_told(Some(due.value()), told),
-            None => number_told(None, told),
-        },
-        "list" => edges_told(list, told),
+        "first" => first_told(words, clock, told),
+        "due" => due_told(unit, told),
+        "list" => edges_told(list.edges(), "empty", told),
         _ => {
             words.refuse();
             Ok(())
         }
+    }
+}
+
+fn advance<W: ClockWord>(
+    words: &mut Words<'_>,
+    clock: &mut LocalClock<W>,
+    told: &mut String,
+) -> Result<(), AllocError> {
+    clock.advance(words.number(clock.now(), u64::MAX));
+    write!(told, "{}/{}", clock.reading().value(), clock.left())
+}
+
+fn first_told<W: ClockWord>(
+    words: &mut Words<'_>,
+    clock: &LocalClock<W>,
+    told: &mut String,
+) -> Result<(), AllocError> {
+    let value = W::cut(words.number(0, u64::MAX));
+    number_told(clock.first_reaching(value), told)
+}
+
+fn due_told<W: ClockWord>(unit: &SyncUnit<W>, told: &mut String) -> Result<(), AllocError> {
+    match unit.next_due() {
+        Some(due) => write!(told, "{}", due.value()),
+        None => told.push_str("none"),
     }
 }
 
@@ -137,18 +173,24 @@ fn raise<W: ClockWord>(
     clock.advance(t);
 }
 
-fn edges_told(list: &EdgeList, told: &mut String) -> Result<(), AllocError> {
+/// Writes edges, or this word where there are none.
+pub(crate) fn edges_told(edges: &[Edge], none: &str, told: &mut String) -> Result<(), AllocError> {
+    if edges.is_empty() {
+        return told.push_str(none);
+    }
     let mut comma = "";
-    for edge in list.edges() {
-        let signal = match edge.signal {
-            Signal::Sync0 => 0,
-            Signal::Sync1 => 1,
-        };
-        write!(told, "{comma}{signal}.{}@{}", edge.index, edge.time_fs)?;
+    for edge in edges {
+        told.push_str(comma)?;
+        edge_told(edge, told)?;
         comma = ",";
     }
-    if comma.is_empty() {
-        told.push_str("empty")?;
-    }
     Ok(())
+}
+
+fn edge_told(edge: &Edge, told: &mut String) -> Result<(), AllocError> {
+    told.push_str(match edge.signal {
+        Signal::Sync0 => "0.",
+        Signal::Sync1 => "1.",
+    })?;
+    write!(told, "{}@{}", edge.index, edge.time_fs)
 }

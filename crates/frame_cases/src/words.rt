@@ -34,6 +34,13 @@ impl<'a> Words<'a> {
         group
     }
 
+    /// All that is left, as one word.
+    pub(crate) fn last(&mut self) -> &'a str {
+        let last = self.rest;
+        self.rest = "";
+        last
+    }
+
     /// Leaves all words that are left unread.
     pub(crate) fn skip_all(&mut self) {
         self.rest = "";

@@ -1,5 +1,0 @@
-use Rattle.report_cases.specs.Runs.{IsRunBefore}
-use Rattle.report_cases.proofs.edges.edges_of.Given as goal
-
-abbrev pub invariant-loop-position : goal.invariant-loop-position
-invariant-loop-position l = IsRunBefore l.segment l.position l.edges.items
