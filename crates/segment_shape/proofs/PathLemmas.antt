@@ -25,8 +25,8 @@ element_short name i k some few fits =
     let digits : length (decimal i) ≤ k = length-decimal-le k i some few fits in
     simp length-append (omega arith)
 
-pub element_short_8 : (name : List ℕ) (i : ℕ) → i < 256 → length (element name i) ≤ length name + 5
-element_short_8 name i h = omega (arith, element_short name i 3 (omega arith) (omega arith) (omega arith))
+pub element_short_u8 : (name : List ℕ) (i : ℕ) → i < 256 → length (element name i) ≤ length name + 5
+element_short_u8 name i h = omega (arith, element_short name i 3 (omega arith) (omega arith) (omega arith))
 
-pub element_short_16 : (name : List ℕ) (i : ℕ) → i < 65536 → length (element name i) ≤ length name + 7
-element_short_16 name i h = omega (arith, element_short name i 5 (omega arith) (omega arith) (omega arith))
+pub element_short_u16 : (name : List ℕ) (i : ℕ) → i < 65536 → length (element name i) ≤ length name + 7
+element_short_u16 name i h = omega (arith, element_short name i 5 (omega arith) (omega arith) (omega arith))

@@ -58,7 +58,7 @@ fn push_fault(path: &mut KeyPath, fault: RowFault)
 }
 
 /// The path of a fault in the slave row at this place.
-#[tactic(auto, using(crate::proofs::PathLemmas::element_short_8, crate::proofs::PathLemmas::dotted_element))]
+#[tactic(auto, using(crate::proofs::PathLemmas::element_short_u8, crate::proofs::PathLemmas::dotted_element))]
 pub(crate) fn slave_path(row: u8, fault: SlaveFault) -> KeyPath
     ensures { result.bytes ≡ element (codes "slaves") row ++ dotted (path_of_slave fault) }
 {
@@ -76,7 +76,7 @@ pub(crate) fn slave_path(row: u8, fault: SlaveFault) -> KeyPath
 }
 
 /// The path of a fault in the loss row at this place.
-#[tactic(auto, using(crate::proofs::PathLemmas::element_short_16))]
+#[tactic(auto, using(crate::proofs::PathLemmas::element_short_u16))]
 pub(crate) fn loss_path(row: u16, fault: RowFault) -> KeyPath
     ensures { result.bytes ≡ element (codes "losses") row ++ dotted (path_of_row fault) }
 {
