@@ -1,9 +1,8 @@
 ghost use Rattle.std.specs.Prelude.{◌≡◌, ◌≤◌, ◌+◌, ⊤, Some, MatchOption};
-ghost use Rattle.osc_clock.specs.Ticks.{IsRunning};
 ghost use Rattle.local_clock.specs.Reading.{advanced, ticks_to};
-ghost use Rattle.local_clock.specs.FirstReaching.{is_behind, tick_after};
+ghost use Rattle.local_clock.specs.FirstReaching.{tick_after};
 ghost use Rattle.sync_units.specs.ClockCopy.{copy_of, copy_after};
-ghost use Rattle.sync_units.specs.SyncRule.{armed_by, due_of, after_tick_of, raised_of, after_tick, tick_edges, after_ticks, ticks_edges};
+ghost use Rattle.sync_units.specs.SyncRule.{armed_by, due_of, after_tick, tick_edges, after_ticks, ticks_edges};
 ghost use Rattle.sync_units.specs.KeptEdges.{put_all};
 ghost use Rattle.sync_units.specs.Quiet.{spare_of};
 ghost use Rattle.sync_units.specs.NextEdge.{next_of, IsNextEdge, IsNextUnlessNow, AreNextEdges, AreFrom, IsFirst};
