@@ -2,12 +2,9 @@
 
 -- Which places the frames of a script leave.
 pub use Rattle.drift_writes.proofs.Frames.{offset_untouched, delay_untouched}
-
 -- Datagrams for which no slave writes a place stay so on their way, and each slave leaves it.
 pub use Rattle.drift_writes.proofs.OnTheWay.{datagrams_none, left_none}
-
 -- A frame that does not write a place leaves of the slaves what only such a write changes.
 pub use Rattle.drift_writes.proofs.Slaves.{plain_held}
-
 -- Behind commissioning the slaves hold what they held.
 pub use Rattle.drift_writes.proofs.Runs.{settled_holds, armed_holds, ran_holds}

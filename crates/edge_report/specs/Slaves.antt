@@ -3,7 +3,6 @@ use Rattle.std.specs.Prelude.{ℕ, slice_index_or}
 use Rattle.cable_tree.specs.Positions.{position_of}
 use Rattle.segment_bounds.specs.Bounds.{reference_of}
 use Rattle.segment_file.specs.Segment.{RowValue, SegmentValue, no_row, row_at, tree_rows}
-pub use Rattle.segment_file.specs.Segment.{no_row as no_slave, row_at as row_of}
 
 -- the slave at a position
 unfoldable pub slave_at : SegmentValue → ℕ → RowValue

@@ -2,15 +2,11 @@
 
 -- The positions that are left of those that a flag marks.
 pub use Rattle.master_steps.proofs.Left.{left, left_yes, left_no, left_end, flag_at}
-
 -- A step that is sent up to three times.
 pub use Rattle.master_steps.proofs.Trying.{sent_of}
-
 -- A reply with no difference has the shape of what was sent.
 pub use Rattle.master_steps.proofs.Shapes.{never_lost}
-
 -- The causes of refusals of a step.
 pub use Rattle.master_steps.proofs.Causes.{OfStep, names, reply_causes}
-
 -- The losses that are counted, and those of the link.
 pub use Rattle.master_steps.proofs.Counting.{counted_none, counted_then}

@@ -2,6 +2,5 @@
 
 -- The sizes of the bounds of a legal segment, and where they are 0.
 pub use Rattle.segment_bounds.proofs.BoundLemmas.{small_copy_bound, delay_short}
-
 -- What the greatest number of pairs is.
 pub use Rattle.segment_bounds.proofs.Greatest.{most, either_order}

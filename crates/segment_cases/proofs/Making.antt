@@ -9,12 +9,12 @@ use Rattle.std.proofs.lemmas.List.Elements.{All-nil, All-push, All-weaker, filte
 use Rattle.std.proofs.lemmas.List.Sorted.{IsNonDecreasingBy-push}
 use Rattle.cable_tree.specs.FrameOrder.{order}
 use Rattle.segment_file.specs.Legal.{IsLegal}
-use Rattle.segment_file.specs.Segment.{SegmentValue, clock_at, is_clock, tree_rows}
+use Rattle.segment_file.specs.Segment.{SegmentValue, clock_at, is_clock, no_row, row_at, tree_rows}
 use Rattle.segment_file.proofs.Exported.{order_many, row_within}
 use Rattle.sync_units.specs.declared.edge.Signal.{Signal}
 use Rattle.sync_units.specs.declared.edge.Signal.TheVariants.{Sync0, Sync1}
 use Rattle.edge_report.specs.Edges.{AreCounted, AreEdges, HasSignal, IsEdge, edges_of, is_of, rank}
-use Rattle.edge_report.specs.Slaves.{no_slave, row_of, slave_at}
+use Rattle.edge_report.specs.Slaves.{slave_at}
 use Rattle.edge_report.specs.declared.slave_edge.SlaveEdge.{SlaveEdge}
 use Rattle.edge_report.proofs.Exported.{keeps_none}
 use Rattle.segment_cases.specs.Runs.{IsRunBefore, IsRunTo}
@@ -125,7 +125,7 @@ unfolding slave_at
 delay_more s p delays x legal low is before =
     let rows = order (tree_rows s.rows) in
     let within = row_within s legal p low in
-    let flag : is_clock (slave_at s p) ≡ clock_at s.rows (row_of s p) = sym (get_or-map is_clock s.rows (row_of s p) no_slave false within) in
+    let flag : is_clock (slave_at s p) ≡ clock_at s.rows (row_at s p) = sym (get_or-map is_clock s.rows (row_at s p) no_row false within) in
     map-append is_some delays (x ∷ []) ∙ ap₂ (λ xs b. xs ++ b ∷ []) before (is ∙ flag)
     ∙ sym (map-append (clock_at s.rows) (take p rows) (slice_index_or rows p 0 ∷ [])) ∙ ap (map (clock_at s.rows)) (sym (take_more rows p 0 (omega (arith, low, order_many s legal))))
 

@@ -1,9 +1,13 @@
 -- Runs of lost frames.
-use Rattle.std.specs.Prelude.{◌≡◌, ℕ, zero, suc, ◌+◌, ◌-◌, ◌<◌, ◌≤◌, Bool, true, false, ◌∷◌, Some, None, nat_eq, ◌&&◌, if◌then◌else◌}
-use Rattle.std.specs.List.{find, list_all, range_with_len}
+use Rattle.std.specs.Prelude.{◌≡◌, ℕ, zero, suc, ◌+◌, ◌-◌, ◌<◌, ◌≤◌, Bool, true, false, List, [], ◌∷◌, Some, None, nat_eq, ◌==◌, ◌&&◌, if◌then◌else◌}
+use Rattle.std.specs.List.{All, find, list_all, range_with_len}
 use Rattle.std.proofs.Common.{arith, refl, subst}
 use Rattle.std.proofs.lemmas.Bool.Decides.{nat_tests}
-use Rattle.segment_file.specs.Runs.{greatest_number}
+use Rattle.std.proofs.lemmas.List.Elements.{All-head, All-tail}
+use Rattle.segment_shape.specs.Losses.{is_same_phase, is_loss_of}
+use Rattle.segment_shape.specs.declared.loss_row.Phase.TheVariants.{Drift}
+use Rattle.segment_shape.specs.declared.loss_row.LossRow.{LossRow}
+use Rattle.segment_file.specs.Runs.{is_lost, is_run, greatest_number}
 
 pub greatest_number_is : greatest_number ≡ 100000
 unfolding greatest_number
@@ -41,6 +45,29 @@ run_whole p a n k h = let e : n - k ≡ 0 = omega arith in rw e refl
 -- the search begins with number 1
 pub whole_range : (p : ℕ → Bool) (n : ℕ) → find p (range_with_len 1 n) ≡ find p (range_with_len 1 ((n + 1) - 1))
 whole_range p n = let e : (n + 1) - 1 ≡ n = omega arith in rw e refl
+
+-- a search that finds nothing
+pub find_none : (p : ℕ → Bool) (n k : ℕ) → ((x : ℕ) → n ≤ x → p x ≡ false) → find p (range_with_len n k) ≡ None
+find_none p n zero none = refl
+find_none p n (suc k) none = rw (none n (omega arith)) (find_none p (n + 1) k (λ x from. none x (omega (arith, from))))
+
+other_number : (b : Bool) (m n : ℕ) → m < n → (b && m == n) ≡ false
+other_number false m n lt = refl
+other_number true m n lt = grind (arith, nat_tests, lt)
+
+-- no frame above the greatest number is listed
+unlisted_above : (losses : List LossRow) (last number : ℕ) → All (λ r. r.number ≤ last) losses → last < number → is_lost losses number ≡ false
+unlisted_above [] last number all above = refl
+unlisted_above (r ∷ losses) last number all above =
+    let low : r.number ≤ last = All-head (λ r. r.number ≤ last) r losses all in
+    let other : is_loss_of Drift number r ≡ false = other_number (is_same_phase r.phase Drift) r.number number (omega (arith, low, above)) in
+    rw other (unlisted_above losses last number (All-tail (λ r. r.number ≤ last) r losses all) above)
+
+-- so no run begins there, where not even an empty one is asked for
+pub no_later_run : (losses : List LossRow) (count last n x : ℕ) → All (λ r. r.number ≤ last) losses → last < n → is_run losses count n ≡ false → n ≤ x
+    → is_run losses count x ≡ false
+no_later_run losses zero last n x all above none from = absurd (cc none)
+no_later_run losses (suc count) last n x all above none from = rw (unlisted_above losses last x all (omega (arith, above, from))) refl
 
 -- what a search did not find, no number of its range is
 pub found_nowhere : (p : ℕ → Bool) (a n x : ℕ) → find p (range_with_len a n) ≡ None → a ≤ x → x < a + n → p x ≡ false

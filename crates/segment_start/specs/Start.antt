@@ -12,7 +12,6 @@ use Rattle.cable_tree.specs.FrameOrder.{order}
 use Rattle.cable_tree.specs.PathSums.{arrive, port_time, round_trip}
 use Rattle.tree_status.specs.Status.{status_of}
 use Rattle.segment_file.specs.Segment.{RowValue, SegmentValue, oscillator, row_of, tree_rows}
-pub use Rattle.segment_file.specs.Segment.{no_row}
 use Rattle.frame_pass.specs.SlaveState.{Visits, Timing, Slave, holding}
 use Rattle.frame_pass.specs.SegmentState.{SegmentState}
 

@@ -1,6 +1,6 @@
 -- How many ticks a unit can spare.
 use Rattle.std.specs.Prelude.{◌≡◌, ℕ, ◌+◌, ◌-◌, ◌*◌, ◌/◌, ◌%◌, ◌^◌, ◌<◌, ◌≤◌, ℤ, pos, negsuc, ◌+ℤ◌, ◌<ℤ◌, ◌≤ℤ◌, true, Option, Some, None, [], min, unsigned_abs, if◌then◌else◌}
-use Rattle.std.proofs.Common.{arith, rules, refl, ap, ◌∙◌, inl, inr}
+use Rattle.std.proofs.Common.{arith, refl, ap, ◌∙◌, inl, inr}
 use Rattle.std.proofs.lemmas.Int.{ints}
 use Rattle.std.proofs.lemmas.Bool.{cases_lt}
 use Rattle.std.proofs.lemmas.Option.{same_Some}
@@ -46,7 +46,7 @@ negative_by : (z : ℤ) → is_negative z ≡ true → z <ℤ pos 0
 negative_by (pos n) e = absurd (let is = e in cc)
 negative_by (negsuc n) e = omega (arith, ints)
 
-quiet_at : (w offset v k j : ℕ) (c : Clock) → k ≤ spare_to w (copy_of w c offset) v → 0 < j → j ≤ k → is_behind w (copy_after w c offset j) v ≡ true
+pub quiet_at : (w offset v k j : ℕ) (c : Clock) → k ≤ spare_to w (copy_of w c offset) v → 0 < j → j ≤ k → is_behind w (copy_after w c offset j) v ≡ true
 quiet_at w offset v k j c spare some le =
     beyond w offset v k j c (beyond_by (word_difference w (copy_of w c offset) v) k (omega (arith, some, le)) spare) le
 

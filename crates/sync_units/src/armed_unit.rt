@@ -1,9 +1,8 @@
 ghost use Rattle.std.specs.Prelude.{◌≡◌, ◌≤◌, ◌+◌, ⊤, Some, MatchOption};
-ghost use Rattle.osc_clock.specs.Ticks.{IsRunning};
-ghost use Rattle.local_clock.specs.Reading.{ticks_to};
-ghost use Rattle.local_clock.specs.FirstReaching.{is_behind, tick_after};
+ghost use Rattle.local_clock.specs.Reading.{advanced, ticks_to};
+ghost use Rattle.local_clock.specs.FirstReaching.{tick_after};
 ghost use Rattle.sync_units.specs.ClockCopy.{copy_of, copy_after};
-ghost use Rattle.sync_units.specs.SyncRule.{armed_by, due_of, after_tick_of, raised_of, after_tick, tick_edges, after_ticks, ticks_edges};
+ghost use Rattle.sync_units.specs.SyncRule.{armed_by, due_of, after_tick, tick_edges, after_ticks, ticks_edges};
 ghost use Rattle.sync_units.specs.KeptEdges.{put_all};
 ghost use Rattle.sync_units.specs.Quiet.{spare_of};
 ghost use Rattle.sync_units.specs.NextEdge.{next_of, IsNextEdge, IsNextUnlessNow, AreNextEdges, AreFrom, IsFirst};
@@ -84,25 +83,30 @@ impl<W: ClockWord> ArmedUnit<W> {
         self.sync0.value()
     }
 
-    /// Raises the edges of the clock's ticks up to `t` into the list.
-    pub(crate) fn edges_until(
+    /// Advances the clock to `t`, and raises the edges of the ticks until then into the list.
+    pub(crate) fn advance(
         &mut self,
-        clock: &LocalClock<W>,
+        clock: &mut LocalClock<W>,
         offset: W,
         t: u64,
         list: &mut EdgeList,
     )
-        requires { clock.now.instant ≤ t }
+        requires { clock.old.instant ≤ t }
         ensures unit { self.new
-            ≡ after_ticks W.WIDTH (copy_after W.WIDTH clock.now (W.number offset)) (ticks_to clock.now t) self.old }
-        ensures list { let copy = copy_after W.WIDTH clock.now (W.number offset) in
-            list.new ≡ put_all (ticks_edges W.WIDTH copy (tick_after clock.now) (ticks_to clock.now t) self.old) list.old }
+            ≡ after_ticks W.WIDTH (copy_after W.WIDTH clock.old (W.number offset)) (ticks_to clock.old t) self.old }
+        ensures list { let copy = copy_after W.WIDTH clock.old (W.number offset) in
+            list.new ≡ put_all (ticks_edges W.WIDTH copy (tick_after clock.old) (ticks_to clock.old t) self.old) list.old }
+        ensures clock { clock.new ≡ advanced W.WIDTH t clock.old }
     {
-        // A wire visits a clock far more often than an edge is due, and looking for one is dear.
-        if clock.ticks_to(t) <= self.spare(clock, offset) {
-            return;
+        // From edge to edge, and then to `t`.
+        let mut ticks = clock.ticks_to(t);
+        let mut next = self.next_edges(clock, offset, ticks);
+        while let Some(tick) = next.first_until(t) {
+            clock.advance(tick);
+            ticks = clock.ticks_to(t);
+            next = self.take_tick(clock, offset, ticks, next, list);
         }
-        self.raise_until(clock, offset, t, list);
+        clock.advance_by(ticks, t);
     }
 
     /// So many ticks of the clock surely raise no edge of either signal, whatever the clock receives.
@@ -116,30 +120,15 @@ impl<W: ClockWord> ArmedUnit<W> {
         }
     }
 
-    // The same as `edges_until`, from edge to edge.
-    fn raise_until(&mut self, clock: &LocalClock<W>, offset: W, t: u64, list: &mut EdgeList)
-        requires { clock.now.instant ≤ t }
-        ensures unit { self.new
-            ≡ after_ticks W.WIDTH (copy_after W.WIDTH clock.now (W.number offset)) (ticks_to clock.now t) self.old }
-        ensures list { let copy = copy_after W.WIDTH clock.now (W.number offset) in
-            list.new ≡ put_all (ticks_edges W.WIDTH copy (tick_after clock.now) (ticks_to clock.now t) self.old) list.old }
-    {
-        let mut clock = *clock;
-        let mut next = self.next_edges(&clock, offset);
-        while let Some(tick) = next.first_until(t) {
-            clock.advance(tick);
-            next = self.take_tick(&clock, offset, next, list);
-        }
-    }
-
-    // When each signal has its next edge.
-    fn next_edges(&self, clock: &LocalClock<W>, offset: W) -> NextEdges
-        ensures next { AreNextEdges W.WIDTH clock.now (W.number offset) self.now result }
-        ensures running { IsRunning clock.now.osc }
+    // When each signal has its next edge, as `NextDue::next_edge` answers it.
+    fn next_edges(&self, clock: &LocalClock<W>, offset: W, ticks: u64) -> NextEdges
+        ensures { AreNextEdges W.WIDTH ticks clock.now (W.number offset) self.now result }
     {
         NextEdges {
-            sync0: self.sync0.next_edge(clock, offset),
-            sync1: self.sync1.and_then(|due| due.next_edge(clock, offset)),
+            sync0: self.sync0.next_edge(clock, offset, ticks),
+            sync1: self
+                .sync1
+                .and_then(|due| due.next_edge(clock, offset, ticks)),
         }
     }
 
@@ -148,6 +137,7 @@ impl<W: ClockWord> ArmedUnit<W> {
         &mut self,
         clock: &LocalClock<W>,
         offset: W,
+        ticks: u64,
         next: NextEdges,
         list: &mut EdgeList,
     ) -> NextEdges
@@ -155,45 +145,31 @@ impl<W: ClockWord> ArmedUnit<W> {
         ensures list { let copy = copy_of W.WIDTH clock.now (W.number offset) in
             list.new ≡ put_all (tick_edges W.WIDTH copy clock.now.instant self.old) list.old }
         ensures next { (signal : Signal)
-            → IsNextUnlessNow W.WIDTH clock.now (W.number offset) (due_of signal self.old) (next_of signal next)
-            → IsNextEdge W.WIDTH clock.now (W.number offset) (due_of signal self.new) (next_of signal result) }
+            → IsNextUnlessNow W.WIDTH ticks clock.now (W.number offset) (due_of signal self.old) (next_of signal next)
+            → IsNextEdge W.WIDTH ticks clock.now (W.number offset) (due_of signal self.new) (next_of signal result) }
     {
-        let sync0 = self.take_tick_of(Signal::Sync0, clock, offset, next.sync0, list);
-        let sync1 = self.take_tick_of(Signal::Sync1, clock, offset, next.sync1, list);
+        let cycle = self.cycle;
+        let sync0 = self.sync0.take_tick(
+            Signal::Sync0,
+            cycle,
+            clock,
+            offset,
+            ticks,
+            next.sync0,
+            list,
+        );
+        let sync1 = match &mut self.sync1 {
+            Some(due) => due.take_tick(
+                Signal::Sync1,
+                cycle,
+                clock,
+                offset,
+                ticks,
+                next.sync1,
+                list,
+            ),
+            None => next.sync1,
+        };
         NextEdges { sync0, sync1 }
-    }
-
-    // The same for one signal.
-    fn take_tick_of(
-        &mut self,
-        signal: Signal,
-        clock: &LocalClock<W>,
-        offset: W,
-        next: Option<u64>,
-        list: &mut EdgeList,
-    ) -> Option<u64>
-        ensures unit { self.new ≡ after_tick_of W.WIDTH (copy_of W.WIDTH clock.now (W.number offset)) signal self.old }
-        ensures list { let copy = copy_of W.WIDTH clock.now (W.number offset) in
-            list.new ≡ put_all (raised_of W.WIDTH signal copy clock.now.instant self.old) list.old }
-        ensures next { IsNextUnlessNow W.WIDTH clock.now (W.number offset) (due_of signal self.old) next
-            → IsNextEdge W.WIDTH clock.now (W.number offset) (due_of signal self.new) result }
-    {
-        let mut due = self.due(signal)?;
-        let next = due.take_tick(signal, self.cycle, clock, offset, next, list);
-        match signal {
-            Signal::Sync0 => self.sync0 = due,
-            Signal::Sync1 => self.sync1 = Some(due),
-        }
-        next
-    }
-
-    // What is due of a signal, where the unit is armed with it.
-    fn due(&self, signal: Signal) -> Option<NextDue<W>>
-        ensures { result ≡ due_of signal self.now }
-    {
-        match signal {
-            Signal::Sync0 => Some(self.sync0),
-            Signal::Sync1 => self.sync1,
-        }
     }
 }

@@ -1,6 +1,8 @@
-ghost use Rattle.std.specs.Prelude.{◌≡◌, Some, ⊤};
+ghost use Rattle.std.specs.Prelude.{◌≡◌, ℕ, Some, ⊤};
 ghost use Rattle.osc_clock.specs.Ticks.{IsRunning};
-ghost use Rattle.sync_units.specs.ClockCopy.{copy_of};
+ghost use Rattle.local_clock.specs.FirstReaching.{tick_after, within_time};
+ghost use Rattle.sync_units.specs.ClockCopy.{copy_of, copy_after};
+ghost use Rattle.sync_units.specs.Edges.{IsNextReached};
 ghost use Rattle.sync_units.specs.SyncRule.{first_due, due_after_tick, raised};
 ghost use Rattle.sync_units.specs.KeptEdges.{put_all};
 ghost use Rattle.sync_units.specs.Quiet.{spare_to};
@@ -63,13 +65,27 @@ impl<W: ClockWord> NextDue<W> {
         self.value
     }
 
-    /// The instant of the next edge, in fs, where nothing else happens to the clock; `None` where
-    /// that is above 2^64 - 1.
-    pub(crate) fn next_edge(&self, clock: &LocalClock<W>, offset: W) -> Option<u64>
-        ensures at { IsNextEdge W.WIDTH clock.now (W.number offset) (Some self.now) result }
+    /// The instant of the next edge, in fs, where nothing else happens to the clock; `None` where none of the next
+    /// so many ticks has it.
+    pub(crate) fn next_edge(&self, clock: &LocalClock<W>, offset: W, ticks: u64) -> Option<u64>
+        ensures at { IsNextEdge W.WIDTH ticks clock.now (W.number offset) (Some self.now) result }
+    {
+        // A wire visits a clock far more often than an edge is due, and looking for one is dear.
+        if ticks <= self.spare(clock, offset) {
+            None
+        } else {
+            self.first_reached(clock, offset)
+        }
+    }
+
+    // The instant of the next tick at which the local copy has reached the due value, in fs; `None` where that is
+    // above 2^64 - 1.
+    fn first_reached(&self, clock: &LocalClock<W>, offset: W) -> Option<u64>
+        ensures at { let copy = copy_after W.WIDTH clock.now (W.number offset) in
+            (k : ℕ) × IsNextReached W.WIDTH copy self.now.value 0 k × (result ≡ within_time (tick_after clock.now k)) }
         ensures running { IsRunning clock.now.osc }
     {
-        // the local copy has reached the due value where the local time has reached this
+        // the local time at which the local copy reaches the due value
         let target = W::cut(self.value.value().wrapping_sub(offset.value()));
         clock.first_reaching(target)
     }
@@ -95,14 +111,15 @@ impl<W: ClockWord> NextDue<W> {
         cycle: u32,
         clock: &LocalClock<W>,
         offset: W,
+        ticks: u64,
         next: Option<u64>,
         list: &mut EdgeList,
     ) -> Option<u64>
         ensures due { self.new ≡ due_after_tick W.WIDTH cycle (copy_of W.WIDTH clock.now (W.number offset)) self.old }
         ensures list { let copy = copy_of W.WIDTH clock.now (W.number offset) in
             list.new ≡ put_all (raised W.WIDTH signal copy clock.now.instant self.old) list.old }
-        ensures next { IsNextUnlessNow W.WIDTH clock.now (W.number offset) (Some self.old) next
-            → IsNextEdge W.WIDTH clock.now (W.number offset) (Some self.new) result }
+        ensures next { IsNextUnlessNow W.WIDTH ticks clock.now (W.number offset) (Some self.old) next
+            → IsNextEdge W.WIDTH ticks clock.now (W.number offset) (Some self.new) result }
     {
         let copy = clock.reading().add(offset.value());
         if copy.diff(self.value) < 0 {
@@ -111,6 +128,6 @@ impl<W: ClockWord> NextDue<W> {
         list.put(signal, self.index, clock.now());
         self.value = self.value.add(u64::from(cycle));
         self.index = (self.index + 1).min(1 << 32);
-        self.next_edge(clock, offset)
+        self.next_edge(clock, offset, ticks)
     }
 }

@@ -1,5 +1,6 @@
 ghost use Rattle.std.specs.Prelude.{◌≡◌, ◌<◌, ◌≤◌, ⊤, Some, None, IfSome};
 ghost use Rattle.std.specs.Option.{option_map};
+ghost use Rattle.local_clock.specs.Reading.{advanced};
 ghost use Rattle.sync_units.specs.ClockCopy.{copy_of};
 ghost use Rattle.sync_units.specs.Quiet.{spare_of};
 ghost use Rattle.sync_units.specs.SyncRule.{armed_by};
@@ -85,17 +86,31 @@ impl<W: ClockWord> SyncUnit<W> {
         }
     }
 
-    /// Raises the edges of the clock's ticks after its instant and at or before `t`, in fs, into the list.
-    /// `offset` is the system time offset, in ns, which makes the local time the local copy. Nothing
-    /// else may happen to the clock until `t`; the caller advances it to `t` afterwards.
+    /// Advances the clock to `t`, in fs, and raises the edges of the ticks until then into the list.
+    /// `offset` is the system time offset, in ns, which makes the local time the local copy.
+    pub fn advance(&mut self, clock: &mut LocalClock<W>, offset: W, t: u64, list: &mut EdgeList)
+        requires { clock.old.instant ≤ t }
+        ensures unit { self.new ≡ unit_at W.WIDTH clock.old (W.number offset) t self.old }
+        ensures list { list.new ≡ put_all (edges_to W.WIDTH clock.old (W.number offset) t self.old) list.old }
+        ensures clock { clock.new ≡ advanced W.WIDTH t clock.old }
+    {
+        match &mut self.armed {
+            Some(unit) => unit.advance(clock, offset, t, list),
+            None => clock.advance(t),
+        }
+    }
+
+    /// The same, where the clock is left for the caller to advance: raises the edges of its ticks after its
+    /// instant and at or before `t`, in fs. Nothing else may happen to the clock until `t`.
     pub fn edges_until(&mut self, clock: &LocalClock<W>, offset: W, t: u64, list: &mut EdgeList)
         requires { clock.now.instant ≤ t }
         ensures unit { self.new ≡ unit_at W.WIDTH clock.now (W.number offset) t self.old }
         ensures list { list.new ≡ put_all (edges_to W.WIDTH clock.now (W.number offset) t self.old) list.old }
     {
-        if let Some(mut unit) = self.armed {
-            unit.edges_until(clock, offset, t, list);
-            self.armed = Some(unit);
+        // The copy has room for all changes of the clock's period, so it is made only where an edge may be due.
+        if clock.ticks_to(t) > self.spare(clock, offset) {
+            let mut clock = *clock;
+            self.advance(&mut clock, offset, t, list);
         }
     }
 }

@@ -12,14 +12,13 @@ use Rattle.cable_tree.specs.declared.port.Port.{Port}
 use Rattle.cable_tree.specs.declared.port.Port.TheVariants.{P1, P2, P3}
 use Rattle.cable_tree.proofs.Exported.{port_time_inside, inside}
 use Rattle.segment_shape.specs.Slaves.{greatest_start, measures}
-use Rattle.segment_file.specs.Segment.{RowValue, SegmentValue, oscillator, tree_rows}
+use Rattle.segment_file.specs.Segment.{RowValue, SegmentValue, no_row, oscillator, tree_rows}
 use Rattle.segment_file.specs.Legal.{IsLegal, IsClock, KeepsTime}
 use Rattle.segment_file.specs.Seen.{row_seen}
 use Rattle.segment_file.specs.declared.slave_row.SlaveRow.{SlaveRow}
 use Rattle.segment_file.proofs.Exported.{legal_round_trip, order_many, row_within, legal_clocks}
 use Rattle.frame_pass.specs.SlaveState.{Slave}
 use Rattle.frame_pass.specs.Invariants.{IsWithin}
-use Rattle.segment_start.specs.Start.{no_row}
 use Rattle.wire_sim.specs.InTime.{IsInTime}
 
 -- no way is longer than 10 ms

@@ -125,7 +125,7 @@ impl<W: ClockWord> DcUnit<W> {
         if ticks <= self.spare && offset.value() == self.spare_offset.value() {
             self.pass(ticks, t);
         } else {
-            self.raise(offset, ticks, t);
+            self.raise(offset, t);
         }
     }
 
@@ -139,17 +139,15 @@ impl<W: ClockWord> DcUnit<W> {
         self.spare = self.spare.saturating_sub(ticks);
     }
 
-    // Raises the edges of so many ticks, counts these, and finds how many after them surely raise none.
+    // The clock counts, raising edges on its way; then it finds how many ticks after them surely raise none.
     #[cold]
     #[inline(never)]
-    fn raise(&mut self, offset: W, ticks: u64, t: u64)
-        requires later { self.old.clock.instant ≤ t }
-        requires number { ticks ≡ ticks_to self.old.clock t }
+    fn raise(&mut self, offset: W, t: u64)
+        requires { self.old.clock.instant ≤ t }
         ensures { self.new ≡ record (timing_at W.WIDTH (W.number offset) t self.old) { event = self.old.event } }
     {
         self.sync
-            .edges_until(&self.clock, offset, t, &mut self.edges);
-        self.clock.advance_by(ticks, t);
+            .advance(&mut self.clock, offset, t, &mut self.edges);
         self.spare = self.sync.spare(&self.clock, offset);
         self.spare_offset = offset;
     }
