@@ -4,3 +4,5 @@
 pub use Rattle.dc_topology.proofs.Steps.{IsPass, before_all, one_more, all_listed, surplus, bad_status, missing, moved}
 -- Statuses list at most one tree, or have one refusal.
 pub use Rattle.dc_topology.proofs.Outcomes.{same_tree, not_both}
+-- What hangs below a slave, as its statuses list it.
+pub use Rattle.dc_topology.proofs.Hanging.{listed}

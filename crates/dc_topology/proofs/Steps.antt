@@ -5,10 +5,9 @@ use Rattle.std.proofs.lemmas.Bool.{cases_lt}
 use Rattle.std.proofs.lemmas.Bool.Decides.{nat_tests}
 use Rattle.std.proofs.lemmas.List.{append_assoc, append-nil, length-reverse, reverse-append}
 use Rattle.std.proofs.Math.Seq.{take-suc, take-length}
-use Rattle.dc_topology.specs.Refusals.{ListsNoFront}
+use Rattle.dc_topology.specs.Refusals.{ListsNoFront, ListsFront, AreFormed}
 use Rattle.dc_topology.specs.DlStatus.{is_formed}
 use Rattle.dc_topology.specs.Listed.{Place, places, Lists}
-use Rattle.dc_topology.specs.Refusals.{ListsFront, AreFormed}
 use Rattle.dc_topology.proofs.Walking.{Walks, ends, takes, taken, walks_of, lists_of}
 
 -- how a walk over the statuses goes on behind the first k of them

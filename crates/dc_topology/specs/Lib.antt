@@ -1,3 +1,4 @@
 pub mod DlStatus
 pub mod Listed
 pub mod Refusals
+pub mod Status

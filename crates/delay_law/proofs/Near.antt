@@ -1,9 +1,8 @@
 -- The delays of a commissioning that ended with Ok lie within the delay bound.
 use Rattle.std.proofs.Common.{◌≡◌, ℕ, zero, suc, ◌-◌, ◌*◌, ◌<◌, Bool, true, false, List, [], ◌∷◌, length, map, Option, Some, None, Result, Ok, Err, refl, sym, ap, ap₂, ◌∙◌, arith}
 use Rattle.std.specs.Prelude.{if◌then◌else◌, is_some, slice_index_or, unwrap_or}
-use Rattle.std.proofs.lemmas.List.{get_or-map}
+use Rattle.std.proofs.lemmas.List.{get_or-map, length-map}
 use Rattle.std.proofs.lemmas.List.FromFn.{fill_by_all}
-use Rattle.std.proofs.lemmas.List.{length-map}
 use Rattle.std.proofs.lemmas.Simd.{map-map}
 use Rattle.cable_tree.specs.FrameOrder.{order}
 use Rattle.cable_tree.specs.PathSums.{arrive, round_trip}
@@ -20,7 +19,7 @@ use Rattle.dc_delay.specs.ShapeRows.{kind_of as kind_of_tree_row, kinds_of, posi
 use Rattle.dc_delay.proofs.Exported.{near_at}
 use Rattle.dc_topology.specs.Listed.{Lists, Place}
 use Rattle.dc_topology.specs.declared.error.TopologyError.{TopologyError}
-use Rattle.dc_topology.proofs.Exported.{not_both, same_tree}
+use Rattle.dc_topology.proofs.Exported.{not_both, same_tree, listed}
 use Rattle.esc_regs.specs.declared.clock_kind.ClockKind.{ClockKind}
 use Rattle.esc_regs.specs.declared.clock_kind.ClockKind.TheVariants as kind
 use Rattle.segment_bounds.specs.Bounds.{delay_at, delay_bound_at}
@@ -28,8 +27,7 @@ use Rattle.segment_file.specs.Legal.{IsLegal}
 use Rattle.segment_file.specs.Segment.{RowValue, SegmentValue, clock_at, is_clock as is_clock_row, is_measuring as is_measuring_row, measures_at, no_row, reference_row, row_at, row_of, tree_row, tree_rows}
 use Rattle.segment_file.proofs.Exported.{legal_measurable, legal_reference, legal_round_trip, order_many, row_within, rows_many}
 use Rattle.segment_shape.specs.Slaves.{has_clock, measures}
-use Rattle.tree_status.specs.Status.{status_of, statuses}
-use Rattle.tree_status.proofs.Exported.{listed}
+use Rattle.dc_topology.specs.Status.{status_of, statuses}
 use Rattle.master_script.specs.Kept.{has_delays, kept_after}
 use Rattle.master_script.specs.ListedTree.{tree_of}
 use Rattle.master_script.specs.Progress.{Progress, progress}

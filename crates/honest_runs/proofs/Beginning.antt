@@ -15,7 +15,7 @@ use Rattle.segment_file.specs.Legal.{IsLegal}
 use Rattle.segment_file.specs.Segment.{RowValue, SegmentValue, no_row, row_at, tree_rows}
 use Rattle.segment_start.specs.Start.{registers_of, slave_by, slave_of, started_segment}
 use Rattle.segment_start.proofs.Exported.{start_size, as_many, stands_at}
-use Rattle.tree_status.specs.Status.{port_bits, status_of}
+use Rattle.dc_topology.specs.Status.{port_bits, status_of}
 use Rattle.named_slaves.specs.Standing.{Stands}
 use Rattle.named_slaves.proofs.Exported.{low_where}
 use Rattle.honest_replies.specs.Told.{AreInOrder}

@@ -14,7 +14,7 @@ use Rattle.dc_delay.specs.ShapeRows.{positions}
 use Rattle.dc_delay.proofs.Exported.{reference_at, unmeasurable_at}
 use Rattle.dc_topology.specs.Listed.{Place, Lists}
 use Rattle.dc_topology.specs.declared.error.TopologyError.{TopologyError}
-use Rattle.dc_topology.proofs.Exported.{same_tree, not_both}
+use Rattle.dc_topology.proofs.Exported.{same_tree, not_both, listed}
 use Rattle.esc_regs.specs.declared.clock_kind.ClockKind.{ClockKind}
 use Rattle.master_script.specs.ListedTree.{tree_of}
 use Rattle.master_script.specs.Slaves.{SlaveWords, is_clock, is_measuring, judgement, judged_tree, judged_clocks, tree_told}
@@ -23,8 +23,7 @@ use Rattle.segment_file.specs.Legal.{IsLegal}
 use Rattle.segment_file.specs.Segment.{RowValue, SegmentValue, tree_rows, clock_at, measures_at, no_row}
 use Rattle.segment_file.proofs.Exported.{order_many, rows_many, legal_reference, legal_measurable}
 use Rattle.segment_shape.specs.Slaves.{measures, has_clock}
-use Rattle.tree_status.specs.Status.{status_of, statuses}
-use Rattle.tree_status.proofs.Exported.{listed}
+use Rattle.dc_topology.specs.Status.{status_of, statuses}
 use Rattle.honest_replies.specs.Told.{word_of, words_of}
 use Rattle.honest_replies.proofs.Exported.{clock_word, measuring_word, flagged}
 use Rattle.honest_runs.specs.FileSlaves.{kind_at, status_at}

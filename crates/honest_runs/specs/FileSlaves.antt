@@ -2,7 +2,7 @@
 use Rattle.std.specs.Prelude.{ℕ}
 use Rattle.esc_regs.specs.declared.clock_kind.ClockKind.{ClockKind}
 use Rattle.segment_file.specs.Segment.{SegmentValue, row_at, row_of, tree_rows}
-use Rattle.tree_status.specs.Status.{status_of}
+use Rattle.dc_topology.specs.Status.{status_of}
 
 -- the kind of the slave at a position, and the DL status that it shows in the tree
 abbrev pub kind_at : SegmentValue → ℕ → ClockKind

@@ -11,7 +11,7 @@ use Rattle.cable_tree.specs.PathSums.{arrive, back_from, port_time}
 use Rattle.cable_tree.specs.declared.port.Port.{Port}
 use Rattle.cable_tree.specs.declared.port.Port.TheVariants.{P1, P2, P3}
 use Rattle.cable_tree.proofs.Exported.{laps_rise, port_time_of}
-use Rattle.tree_status.specs.Status.{status_of}
+use Rattle.dc_topology.specs.Status.{status_of}
 use Rattle.segment_file.specs.Segment.{SegmentValue, row_at, row_of, tree_rows}
 use Rattle.segment_file.specs.Legal.{IsLegal}
 use Rattle.segment_file.proofs.Exported.{row_within, rows_many}

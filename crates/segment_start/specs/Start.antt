@@ -10,7 +10,7 @@ use Rattle.cable_tree.specs.Row.{Row}
 use Rattle.cable_tree.specs.declared.port.Port.TheVariants.{P1, P2, P3}
 use Rattle.cable_tree.specs.FrameOrder.{order}
 use Rattle.cable_tree.specs.PathSums.{arrive, port_time, round_trip}
-use Rattle.tree_status.specs.Status.{status_of}
+use Rattle.dc_topology.specs.Status.{status_of}
 use Rattle.segment_file.specs.Segment.{RowValue, SegmentValue, oscillator, row_of, tree_rows}
 use Rattle.frame_pass.specs.SlaveState.{Visits, Timing, Slave, holding}
 use Rattle.frame_pass.specs.SegmentState.{SegmentState}

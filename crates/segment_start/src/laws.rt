@@ -5,7 +5,7 @@ ghost use Rattle.ecat_frame.specs.FrameGrammar.{FrameValue};
 ghost use Rattle.osc_clock.specs.Ticks.{IsRunning};
 ghost use Rattle.segment_file.specs.Segment.{SegmentValue, row_at, row_of, tree_rows};
 ghost use Rattle.segment_file.specs.Legal.{IsLegal};
-ghost use Rattle.tree_status.specs.Status.{status_of};
+ghost use Rattle.dc_topology.specs.Status.{status_of};
 ghost use Rattle.frame_pass.specs.SlaveState.{Slave, Timing, width};
 ghost use Rattle.frame_pass.specs.SegmentState.{leaves_at};
 ghost use Rattle.frame_pass.specs.Invariants.{IsSoundSegment, IsUnsent, after_frames};

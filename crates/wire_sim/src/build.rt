@@ -23,7 +23,7 @@ use segment_file::{Segment, SlaveRow};
 use segment_shape::LossList;
 use std::alloc::Global;
 use sync_units::EdgeList;
-use tree_status::dl_status;
+use dc_topology::dl_status;
 use wrap_time::{ClockWord, T32, T64};
 
 /// How many ticks there are to a correction at the start: a 64th of the speed counter's start, 0x1000.

@@ -5,7 +5,7 @@ use crate::words::{Words, place_told, port_number};
 use cable_tree::{Port, Tree, TreeRow};
 use dc_topology::{Shape, TopologyError, topology};
 use std::alloc::{AllocError, Global};
-use tree_status::dl_status;
+use dc_topology::dl_status;
 
 /// The statuses of slaves that hang so, and the tree that is found from them.
 pub(crate) fn statuses_told(

@@ -9,12 +9,11 @@ use Rattle.cable_tree.specs.declared.port.Port.TheVariants.{P1, P2, P3}
 use Rattle.cable_tree.specs.Row.{Row, IsRow}
 use Rattle.cable_tree.specs.Segment.{IsTree}
 use Rattle.cable_tree.specs.FrameOrder.{child, behind, subtree, order, root}
-use Rattle.cable_tree.proofs.Exported.{at_spot, child_hangs, root_of, tree_induction, subtree_is, Stands, stands_first, stands_later}
-use Rattle.cable_tree.proofs.Exported.{stands_front, stands_behind, order_stands}
+use Rattle.cable_tree.proofs.Exported.{at_spot, child_hangs, root_of, tree_induction, subtree_is, Stands, stands_first, stands_later, stands_front, stands_behind, order_stands}
 use Rattle.dc_topology.specs.Listed.{Place, place_at, places, Hangs, Lists, nothing, slave}
-use Rattle.tree_status.specs.Status.{status_of}
+use Rattle.dc_topology.specs.Status.{status_of}
 use Rattle.cable_tree.specs.Positions.{position_of, by_position, placed}
-use Rattle.tree_status.proofs.Bits.{formed, connected}
+use Rattle.dc_topology.proofs.Bits.{formed, connected}
 
 -- the place that a child takes
 abbrev taken_at : ℕ → Port → Option ℕ → List Place

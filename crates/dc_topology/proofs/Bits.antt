@@ -13,7 +13,7 @@ use Rattle.cable_tree.specs.FrameOrder.{child}
 use Rattle.cable_tree.specs.PathSums.{back_from}
 use Rattle.dc_topology.specs.DlStatus.{bit, is_connected, is_closed, is_formed}
 use Rattle.dc_topology.specs.Listed.{port_number}
-use Rattle.tree_status.specs.Status.{port_bits, status_of}
+use Rattle.dc_topology.specs.Status.{port_bits, status_of}
 
 abbrev word : Bool → Bool → Bool → ℕ
 word one two three = port_bits true 0 + port_bits one 1 + port_bits two 2 + port_bits three 3

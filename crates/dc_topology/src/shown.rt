@@ -1,7 +1,7 @@
 ghost use Rattle.std.specs.Prelude.{◌≡◌, ◌<◌, ◌≤◌, length};
 ghost use Rattle.std.specs.Option.{is_some};
 ghost use Rattle.cable_tree.specs.FrameOrder.{child};
-ghost use Rattle.tree_status.specs.Status.{port_bits, status_of};
+ghost use Rattle.dc_topology.specs.Status.{port_bits, status_of};
 
 use cable_tree::{Port, Tree};
 

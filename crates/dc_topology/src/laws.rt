@@ -12,7 +12,7 @@ ghost use Rattle.cable_tree.specs.Segment.{IsTree};
 ghost use Rattle.cable_tree.specs.declared.port.Port.{Port};
 ghost use Rattle.dc_topology.specs.DlStatus.{bit, is_connected, is_closed, is_formed};
 ghost use Rattle.dc_topology.specs.Listed.{Lists, port_number};
-ghost use Rattle.tree_status.specs.Status.{status_of, statuses};
+ghost use Rattle.dc_topology.specs.Status.{status_of, statuses};
 
 /// A status is well formed. Port 0 is connected in it, and another port exactly where a slave hangs there;
 /// every other port is closed, and has no link. The bits 0 to 3 are 0.

@@ -1,3 +1,0 @@
-mod Bits
-mod Hanging
-pub mod Exported
