@@ -14,7 +14,7 @@ use Rattle.sync_units.specs.declared.edge.Signal.TheVariants.{Sync0, Sync1}
 use Rattle.frame_pass.specs.SlaveState.{Slave, station}
 use Rattle.frame_pass.specs.DatagramTable.{writes}
 use Rattle.frame_pass.specs.DatagramAtSlave.{doing}
-use Rattle.visit_laws.proofs.Exported.{idle, other_station, not_covered}
+use Rattle.frame_pass.proofs.Exported.{idle, other_station, not_covered}
 use Rattle.named_slaves.specs.Standing.{HasAddress, Stands, own_address}
 use Rattle.armed_signals.specs.Planned.{BringsActivation, IsPlanned}
 use Rattle.armed_signals.proofs.AtSlaves.{MayActivate}

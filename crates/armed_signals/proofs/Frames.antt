@@ -14,8 +14,7 @@ use Rattle.frame_pass.specs.FramePass.{are_latching, at_arrival, datagrams_behin
 use Rattle.frame_pass.specs.Invariants.{IsSoundSegment}
 use Rattle.frame_pass.specs.Reach.{reach_of}
 use Rattle.frame_pass.specs.SegmentState.{SegmentState, leaves_at, segment_step}
-use Rattle.frame_pass.proofs.Exported.{step_reached, step_stays, is_not_sent}
-use Rattle.visit_laws.proofs.Exported.{sizes_of}
+use Rattle.frame_pass.proofs.Exported.{step_reached, step_stays, is_not_sent, sizes_of}
 use Rattle.named_slaves.specs.Standing.{Stands}
 use Rattle.named_slaves.specs.Mindful.{AreMindful}
 use Rattle.named_slaves.proofs.Exported.{stands_after, had_before, low_where, mindful_at, same_many, stands_at}

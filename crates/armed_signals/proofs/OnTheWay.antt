@@ -8,9 +8,8 @@ use Rattle.frame_pass.specs.SlaveState.{Slave, station}
 use Rattle.frame_pass.specs.DatagramTable.{doing_by, raises_adp, reads}
 use Rattle.frame_pass.specs.DatagramAtSlave.{datagram_after, doing, is_refused_by, slave_after}
 use Rattle.frame_pass.specs.FramePass.{at_arrival, datagrams_after, datagrams_behind, datagrams_passed}
-use Rattle.frame_pass.proofs.Exported.{HasSize}
-use Rattle.visit_laws.specs.Aside.{HaveSize}
-use Rattle.visit_laws.proofs.Exported.{same_size, kept_unread, size_advanced, size_after}
+use Rattle.frame_pass.proofs.Exported.{HasSize, same_size, kept_unread, size_advanced, size_after}
+use Rattle.frame_pass.specs.Aside.{HaveSize}
 use Rattle.armed_signals.specs.Planned.{ArePlanned, IsPlanned}
 
 -- a write by station address: no slave raises its ADP, or reads for it

@@ -33,8 +33,7 @@ use Rattle.segment_start.specs.Start.{slave_of, started_segment, timing_by}
 use Rattle.segment_start.proofs.Exported.{starts_timely}
 use Rattle.run_of_file.specs.MasterOfFile.{master_of, plan_of}
 use Rattle.run_of_file.specs.RunOfFile.{RunEnd, armed, commissioned, end_of_run, frames_given, ran, rounded_off, run_of, settled}
-use Rattle.run_of_file.proofs.Exported.{armed_on, commissioned_on, ran_on, settled_on, IsFromStart, armed_from, commissioned_from, ran_from}
-use Rattle.run_of_file.proofs.Exported.{settled_from, as_many_kinds, few_rows, some_rows}
+use Rattle.run_of_file.proofs.Exported.{armed_on, commissioned_on, ran_on, settled_on, IsFromStart, armed_from, commissioned_from, ran_from, settled_from, as_many_kinds, few_rows, some_rows}
 use Rattle.honest_runs.specs.FileSlaves.{kind_at, status_at}
 use Rattle.honest_runs.proofs.Exported.{begins, order_stays, sent_by}
 use Rattle.armed_signals.specs.OwnSignals.{AllKeepTo, KeepsTo, SlaveKeepsTo, signals_at}

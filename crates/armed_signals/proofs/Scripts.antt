@@ -5,7 +5,7 @@ use Rattle.byteorder.specs.Endian.{little_bytes}
 use Rattle.ecat_frame.specs.FrameGrammar.{DatagramValue}
 use Rattle.ecat_frame.specs.declared.command.Command.TheVariants.{Fpwr}
 use Rattle.frame_pass.specs.WriteEffects.{has_bit}
-use Rattle.visit_laws.specs.Aside.{never_writes}
+use Rattle.frame_pass.specs.Aside.{never_writes}
 use Rattle.master_script.specs.Config.{ConfigValue, plan_at}
 use Rattle.master_script.specs.Frames.{activation, asks, station, width}
 use Rattle.master_script.specs.Steps.{datagrams_of}

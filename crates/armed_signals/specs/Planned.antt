@@ -5,7 +5,7 @@ use Rattle.ecat_frame.specs.FrameGrammar.{DatagramValue}
 use Rattle.ecat_frame.specs.declared.command.Command.TheVariants.{Fpwr}
 use Rattle.esc_regs.specs.RegisterBytes.{AreApart}
 use Rattle.frame_pass.specs.WriteEffects.{has_bit}
-use Rattle.visit_laws.specs.Aside.{never_writes}
+use Rattle.frame_pass.specs.Aside.{never_writes}
 use Rattle.named_slaves.specs.Standing.{own_address}
 use Rattle.master_script.specs.Config.{ConfigValue, plan_at}
 

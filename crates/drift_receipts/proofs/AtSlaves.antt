@@ -22,10 +22,9 @@ use Rattle.master_script.specs.Frames.{drift_datagram}
 use Rattle.named_slaves.specs.Standing.{Stands, own_address}
 use Rattle.named_slaves.proofs.Exported.{low_where}
 use Rattle.segment_shape.specs.Slaves.{has_clock}
-use Rattle.visit_laws.specs.Aside.{HaveSize}
-use Rattle.visit_laws.specs.Drift.{IsDrift, IsOther, first_behind}
-use Rattle.visit_laws.proofs.Exported.{behind_others, carried, events_first, frame_addressed, frame_receives, passes_refused}
-use Rattle.visit_laws.proofs.Exported.{quiet_unwritten, same_refusal}
+use Rattle.frame_pass.specs.Aside.{HaveSize}
+use Rattle.frame_pass.specs.Drift.{IsDrift, IsOther, first_behind}
+use Rattle.frame_pass.proofs.Exported.{behind_others, carried, events_first, frame_addressed, frame_receives, passes_refused, quiet_unwritten, same_refusal}
 
 -- the low half of the system time that a slave has when the frame arrives
 abbrev pub word_at : ℕ → Slave → Timing → ℕ

@@ -7,7 +7,7 @@ use Rattle.drift_receipts.specs.Receipts.{IsDriftFrame, IsReference, brought, co
 use Rattle.drift_receipts.proofs.AtSlaves.{clock_receives, other_rests, received_at, reference_rests, word_at}
 use Rattle.drift_receipts.proofs.First.{behind_reference, reference_clock}
 use Rattle.drift_receipts.proofs.States.{clock_there, drifting, leaves, orderly, reaches}
-use Rattle.visit_laws.proofs.Exported.{sizes_of, sound_at}
+use Rattle.frame_pass.proofs.Exported.{sizes_of, sound_at}
 use Rattle.ecat_link.specs.Exchanges.{Exchange}
 use Rattle.frame_pass.specs.Advancing.{measuring_at}
 use Rattle.frame_pass.specs.ClockHistory.{events_passed}

@@ -14,9 +14,9 @@ use Rattle.master_script.specs.Words.{Words, reference_of}
 use Rattle.master_script.specs.declared.step.Step.{Step}
 use Rattle.master_script.specs.declared.step.Step.TheVariants.{Count, Identify, Rate, Latch, Times, Set, Settle, Drift, Arm}
 use Rattle.segment_shape.specs.declared.loss_row.Phase.TheVariants as phase
-use Rattle.visit_laws.specs.Aside.{HaveSize}
-use Rattle.visit_laws.specs.Drift.{first_behind}
-use Rattle.visit_laws.proofs.Exported.{same_size, size_advanced, size_after}
+use Rattle.frame_pass.specs.Aside.{HaveSize}
+use Rattle.frame_pass.specs.Drift.{first_behind}
+use Rattle.frame_pass.proofs.Exported.{same_size, size_advanced, size_after}
 
 -- the datagrams of a drift frame: the first brings the time, and the others write neither the system time nor the speed
 pub record IsDrifting (r : ℕ) (ds : List DatagramValue) : Type 0 where

@@ -15,7 +15,7 @@ use Rattle.frame_pass.specs.FramePass.{are_latching, at_arrival, comes_by, port_
 use Rattle.frame_pass.specs.PlainRegisters.{AreLeft}
 use Rattle.frame_pass.specs.SlaveState.{Measuring, Slave, Timing, on_measuring_of}
 use Rattle.frame_pass.specs.WriteEffects.{activated, affected, arms, compared, latched, reset_by, wrote}
-use Rattle.visit_laws.proofs.Exported.{not_covered}
+use Rattle.frame_pass.proofs.Exported.{not_covered}
 
 abbrev g_of : Measuring → ℕ
 g_of m = m.timing.clock.g

@@ -7,9 +7,8 @@ use Rattle.frame_pass.specs.DatagramAtSlave.{datagram_after, slave_after}
 use Rattle.frame_pass.specs.FramePass.{at_arrival, datagrams_after, datagrams_behind, datagrams_passed}
 use Rattle.frame_pass.specs.PlainRegisters.{AreLeft}
 use Rattle.frame_pass.specs.SlaveState.{Slave, station}
-use Rattle.frame_pass.proofs.Exported.{HasSize}
-use Rattle.visit_laws.specs.Aside.{HaveSize, IsAside}
-use Rattle.visit_laws.proofs.Exported.{apart_where_written, same_size, size_advanced, size_after}
+use Rattle.frame_pass.proofs.Exported.{HasSize, apart_where_written, same_size, size_advanced, size_after}
+use Rattle.frame_pass.specs.Aside.{HaveSize, IsAside}
 
 module _ (at n : ℕ) where
   datagram_none : (s : Slave) (d : DatagramValue) → HasSize s.registers → WritesNone at n d → WritesNone at n (datagram_after s d)

@@ -14,10 +14,9 @@ use Rattle.frame_pass.specs.PlainRegisters.{AreLeft, IsPlain}
 use Rattle.frame_pass.specs.Reach.{reach_of}
 use Rattle.frame_pass.specs.SegmentState.{SegmentState, finished, leaves_at, segment_step}
 use Rattle.frame_pass.specs.SlaveState.{Slave, holds}
-use Rattle.frame_pass.proofs.Exported.{step_slaves, left_passed, plain_time, is_not_sent, HasSize, timely_leaving, timely_step}
-use Rattle.visit_laws.specs.Aside.{HaveSize}
-use Rattle.visit_laws.specs.ReceiveTimes.{IsReceiveTime}
-use Rattle.visit_laws.proofs.Exported.{never_latching, sizes_of, size_advanced, times_left, quiet_passed}
+use Rattle.frame_pass.proofs.Exported.{step_slaves, left_passed, plain_time, is_not_sent, HasSize, timely_leaving, timely_step, never_latching, sizes_of, size_advanced, times_left, quiet_passed}
+use Rattle.frame_pass.specs.Aside.{HaveSize}
+use Rattle.frame_pass.specs.ReceiveTimes.{IsReceiveTime}
 
 some_same : {X : Type 0} {x y : X} → Some x ≡ Some y → x ≡ y
 some_same e = cc

@@ -5,8 +5,8 @@ use Rattle.ecat_frame.specs.FrameGrammar.{DatagramValue}
 use Rattle.esc_regs.specs.RegisterBytes.{AreApart}
 use Rattle.frame_pass.specs.PlainRegisters.{IsPlain}
 use Rattle.frame_pass.specs.SlaveState.{Slave, holds}
-use Rattle.visit_laws.specs.Aside.{never_writes}
-use Rattle.visit_laws.specs.ReceiveTimes.{IsReceiveTime}
+use Rattle.frame_pass.specs.Aside.{never_writes}
+use Rattle.frame_pass.specs.ReceiveTimes.{IsReceiveTime}
 
 -- the n bytes at a place are none of the system time, the activation, the start time and the cycle times
 pub record IsUntouched (at n : ℕ) : Type 0 where

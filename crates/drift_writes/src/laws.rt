@@ -11,7 +11,7 @@ ghost use Rattle.run_of_file.specs.RunOfFile.{RunEnd, armed, commissioned, ran, 
 ghost use Rattle.segment_file.specs.Legal.{IsLegal};
 ghost use Rattle.segment_file.specs.Segment.{SegmentValue};
 ghost use Rattle.segment_shape.specs.declared.loss_row.Phase.TheVariants as phase;
-ghost use Rattle.visit_laws.specs.ReceiveTimes.{IsReceiveTime};
+ghost use Rattle.frame_pass.specs.ReceiveTimes.{IsReceiveTime};
 
 /// A drift frame of the script writes the system time, and the activation, the start time and the cycle times of a SYNC unit, and
 /// nothing else.

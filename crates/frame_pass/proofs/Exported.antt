@@ -18,3 +18,28 @@ pub use Rattle.frame_pass.proofs.Plain.{plain_datagram, plain_time, plain_passed
 pub use Rattle.frame_pass.proofs.Fixed.{fixed_advanced, fixed_passed, same_step, same_finished}
 -- What a step does to the slave at a position.
 pub use Rattle.frame_pass.proofs.AtPositions.{step_slaves, step_reached, step_stays, finished_at, not_latching}
+-- Which bytes a write never stores.
+pub use Rattle.frame_pass.proofs.Table.{is_shut, shut}
+-- What the effects of a write leave of a slave's clock and registers.
+pub use Rattle.frame_pass.proofs.Effects.{times_left, size_advanced}
+-- What the datagrams of a frame leave in the receive times.
+pub use Rattle.frame_pass.proofs.Latching.{size_after, quiet_passed}
+-- What the ports take that latch, and the receive times behind a frame.
+pub use Rattle.frame_pass.proofs.Ports.{goes_behind, latched_passed}
+-- What the datagram of a drift frame does at a slave.
+pub use Rattle.frame_pass.proofs.Drifting.{passes_refused, left_unwritten, quiet_unwritten, kept_unread, not_covered, events_first}
+pub use Rattle.frame_pass.proofs.Drifting.{same_refusal, frame_receives, frame_addressed, first_is, behind_others, carried}
+-- A datagram on its way through slaves.
+pub use Rattle.frame_pass.proofs.Counting.{passed_at, does_at, is_sent, counts, one_gains, all_gain, other_station}
+-- The local copies of calls are those of the history.
+pub use Rattle.frame_pass.proofs.Copying.{time_then}
+-- A datagram that addresses one slave by its station address.
+pub use Rattle.frame_pass.proofs.Stations.{Found, found, IsByStation, passed_on, arrives, station_read, station_written}
+-- Clocks that receive no difference, and readings as advances.
+pub use Rattle.frame_pass.proofs.Resting.{resets_passed}
+-- Frames that write none of the bytes at a place.
+pub use Rattle.frame_pass.proofs.Asides.{idle, apart_where_written, is_plain, left_by, same_size, aside_behind, never_latching}
+-- What a datagram stores.
+pub use Rattle.frame_pass.proofs.Storage.{stores_number}
+-- Sound slaves, one by one.
+pub use Rattle.frame_pass.proofs.SoundSlaves.{sound_at, sizes_of}

@@ -9,4 +9,18 @@ mod Units
 mod Plain
 mod Fixed
 mod AtPositions
+mod Table
+mod Effects
+mod Latching
+mod Ports
+mod DataRead
+mod Drifting
+mod Counting
+mod Copying
+mod Arming
+mod Stations
+mod Resting
+mod Asides
+mod Storage
+mod SoundSlaves
 pub mod Exported

@@ -12,3 +12,12 @@ pub mod Invariants
 pub mod ClockHistory
 pub mod UnitHistory
 pub mod PlainRegisters
+pub mod ReceiveTimes
+pub mod Drift
+pub mod Counters
+pub mod Copies
+pub mod Arming
+pub mod Stations
+pub mod Rest
+pub mod Aside
+pub mod Stored

@@ -12,9 +12,9 @@ use Rattle.esc_regs.specs.declared.clock_kind.ClockKind.TheVariants as kind
 use Rattle.frame_pass.specs.SlaveState.{Slave, holds}
 use Rattle.frame_pass.specs.FramePass.{datagrams_behind}
 use Rattle.segment_shape.specs.Slaves.{has_clock}
-use Rattle.visit_laws.specs.Aside.{never_writes}
-use Rattle.visit_laws.specs.Stations.{slave_found}
-use Rattle.visit_laws.proofs.Exported.{found}
+use Rattle.frame_pass.specs.Aside.{never_writes}
+use Rattle.frame_pass.specs.Stations.{slave_found}
+use Rattle.frame_pass.proofs.Exported.{found}
 use Rattle.master_script.specs.Frames.{asks, blank, station, identify_datagrams}
 use Rattle.master_script.specs.Slaves.{SlaveWords}
 use Rattle.master_script.specs.Steps.{expected_fourth, identified, datagram_at}

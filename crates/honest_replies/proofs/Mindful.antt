@@ -3,7 +3,7 @@ use Rattle.std.proofs.Common.{◌≡◌, ℕ, ◌<◌, ◌≤◌, refl, arith, i
 use Rattle.ecat_frame.specs.FrameGrammar.{DatagramValue}
 use Rattle.wrap_time.specs.WordLess.{word_less}
 use Rattle.frame_pass.specs.DatagramTable.{raised_by}
-use Rattle.visit_laws.specs.Aside.{never_writes}
+use Rattle.frame_pass.specs.Aside.{never_writes}
 use Rattle.master_script.specs.Config.{ConfigValue}
 use Rattle.master_script.specs.Frames.{asks, station}
 use Rattle.byteorder.specs.Endian.{little_bytes}

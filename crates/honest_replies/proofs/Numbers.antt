@@ -15,9 +15,9 @@ use Rattle.frame_pass.specs.SlaveState.{Slave}
 use Rattle.frame_pass.specs.DatagramTable.{raised_by}
 use Rattle.frame_pass.specs.FramePass.{datagrams_behind}
 use Rattle.segment_shape.specs.Slaves.{measures, has_clock}
-use Rattle.visit_laws.specs.Aside.{HaveSize}
-use Rattle.visit_laws.specs.Counters.{gains}
-use Rattle.visit_laws.proofs.Exported.{counts}
+use Rattle.frame_pass.specs.Aside.{HaveSize}
+use Rattle.frame_pass.specs.Counters.{gains}
+use Rattle.frame_pass.proofs.Exported.{counts}
 use Rattle.master_script.specs.Slaves.{SlaveWords, is_measuring, is_clock, measuring, clocks}
 use Rattle.named_slaves.specs.Broadcasts.{asks_all, accepting}
 use Rattle.named_slaves.proofs.Exported.{all_answer}

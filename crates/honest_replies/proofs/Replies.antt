@@ -11,8 +11,8 @@ use Rattle.frame_pass.specs.SlaveState.{Slave}
 use Rattle.frame_pass.specs.DatagramAtSlave.{slave_after}
 use Rattle.frame_pass.specs.FramePass.{at_arrival, datagrams_after, datagrams_passed, datagrams_behind}
 use Rattle.segment_shape.specs.Slaves.{measures, has_clock}
-use Rattle.visit_laws.specs.Stations.{slave_found}
-use Rattle.visit_laws.proofs.Exported.{IsByStation}
+use Rattle.frame_pass.specs.Stations.{slave_found}
+use Rattle.frame_pass.proofs.Exported.{IsByStation}
 use Rattle.master_script.specs.Config.{ConfigValue}
 use Rattle.master_script.specs.Frames.{blank, width, count_datagrams, rate_datagrams, latch_datagrams, times_datagrams, set_datagrams, drift_datagrams, arm_datagrams}
 use Rattle.master_script.specs.Judged.{judged, judged_by, miscounted, counters}

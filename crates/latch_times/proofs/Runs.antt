@@ -22,7 +22,7 @@ use Rattle.frame_pass.specs.FramePass.{datagrams_behind}
 use Rattle.frame_pass.specs.SlaveState.{Slave, Timing, width as clock_width}
 use Rattle.frame_pass.specs.Invariants.{IsSoundSegment}
 use Rattle.frame_pass.specs.SegmentState.{SegmentState, leaves_at, segment_step}
-use Rattle.frame_pass.proofs.Exported.{next_leaves, timely_step}
+use Rattle.frame_pass.proofs.Exported.{next_leaves, timely_step, sound_at}
 use Rattle.master_script.specs.Config.{ConfigValue}
 use Rattle.master_script.specs.Frames.{times_datagrams, width as bytes_by}
 use Rattle.master_script.specs.Progress.{Commissioning, Progress, after, asked, asked_by, counted, later_steps, moved, progress}
@@ -47,9 +47,7 @@ use Rattle.resting_clocks.specs.HeldTimes.{AllHold, HoldsTimes}
 use Rattle.latch_times.specs.ToldTimes.{TellsTimes}
 use Rattle.resting_clocks.specs.Far.{AreFar}
 use Rattle.resting_clocks.specs.OfFile.{IsFixed}
-use Rattle.resting_clocks.proofs.Exported.{AtEach, IsCommissioning, IsReading, far_latch, far_time, fixed_step, holds_step, latch_step, rests_step}
-use Rattle.resting_clocks.proofs.Exported.{fixed_first, has_there, rests_first, arrives_there, back_there}
-use Rattle.visit_laws.proofs.Exported.{sound_at}
+use Rattle.resting_clocks.proofs.Exported.{AtEach, IsCommissioning, IsReading, far_latch, far_time, fixed_step, holds_step, latch_step, rests_step, fixed_first, has_there, rests_first, arrives_there, back_there}
 use Rattle.latch_times.proofs.Measuring.{IsFirst, IsJudged, IsLatched, IsMeasuring, IsOpen, IsUnjudged, first_asked, latch_asked, rate_asked, reading_asked, reading_steps}
 use Rattle.latch_times.proofs.Told.{arrival_is, port_is, unit_is}
 use Rattle.latch_times.proofs.Widths.{wide_told, word_told}

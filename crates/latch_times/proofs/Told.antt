@@ -15,10 +15,10 @@ use Rattle.frame_pass.specs.SlaveState.{Slave, holds}
 use Rattle.frame_pass.specs.DatagramAtSlave.{slave_after}
 use Rattle.frame_pass.specs.FramePass.{at_arrival, datagrams_behind}
 use Rattle.segment_shape.specs.Slaves.{measures}
-use Rattle.visit_laws.specs.Counters.{slave_before}
-use Rattle.visit_laws.specs.Stations.{BringsBack, slave_found}
-use Rattle.visit_laws.specs.Aside.{never_writes}
-use Rattle.visit_laws.proofs.Exported.{idle, is_sent, times_left, Found, found}
+use Rattle.frame_pass.specs.Counters.{slave_before}
+use Rattle.frame_pass.specs.Stations.{BringsBack, slave_found}
+use Rattle.frame_pass.specs.Aside.{never_writes}
+use Rattle.frame_pass.proofs.Exported.{idle, is_sent, times_left, Found, found}
 use Rattle.master_script.specs.Frames.{asks, blank, station, times_datagrams, width}
 use Rattle.master_script.specs.Steps.{data_at, latch_in}
 use Rattle.named_slaves.specs.Addressed.{ByStation}

@@ -20,8 +20,7 @@ use Rattle.esc_regs.proofs.Exported.{untouched}
 use Rattle.frame_pass.specs.SlaveState.{Slave, holds, station}
 use Rattle.frame_pass.specs.DatagramTable.{Passes, Writes, when, doing_by, writes, reads, raises_adp, raised_by}
 use Rattle.frame_pass.specs.DatagramAtSlave.{is_refused_by, doing, slave_after, datagram_after}
-use Rattle.frame_pass.proofs.Exported.{plain_datagram, HasSize}
-use Rattle.visit_laws.proofs.Exported.{is_plain, idle, same_size, left_unwritten, kept_unread, stores_number}
+use Rattle.frame_pass.proofs.Exported.{plain_datagram, HasSize, is_plain, idle, same_size, left_unwritten, kept_unread, stores_number}
 use Rattle.named_slaves.specs.Standing.{HasAddress, own_address, Stands}
 use Rattle.named_slaves.specs.Mindful.{Names, IsMindful}
 use Rattle.named_slaves.proofs.Parts.{slave_stays}

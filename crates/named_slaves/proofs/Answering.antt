@@ -12,13 +12,11 @@ use Rattle.frame_pass.specs.SlaveState.{Slave, station}
 use Rattle.frame_pass.specs.DatagramTable.{Passes, doing_by, gain, raised_by}
 use Rattle.frame_pass.specs.DatagramAtSlave.{is_refused_by, doing, slave_after, datagram_after}
 use Rattle.frame_pass.specs.FramePass.{at_arrival, datagrams_passed, datagrams_behind}
-use Rattle.frame_pass.proofs.Exported.{fixed_advanced, HasSize}
-use Rattle.visit_laws.specs.Counters.{slave_before, doing_in, gains}
-use Rattle.visit_laws.specs.Stations.{slave_found, IsAlone, BringsBack}
-use Rattle.visit_laws.specs.Aside.{HaveSize}
-use Rattle.visit_laws.specs.Drift.{first_behind}
-use Rattle.visit_laws.proofs.Exported.{same_size, passed_at, does_at, is_sent, all_gain, one_gains, counts, passes_refused, first_is}
-use Rattle.visit_laws.proofs.Exported.{size_advanced, size_after, found, IsByStation, arrives, passed_on, station_read, station_written}
+use Rattle.frame_pass.proofs.Exported.{fixed_advanced, HasSize, same_size, passed_at, does_at, is_sent, all_gain, one_gains, counts, passes_refused, first_is, size_advanced, size_after, found, IsByStation, arrives, passed_on, station_read, station_written}
+use Rattle.frame_pass.specs.Counters.{slave_before, doing_in, gains}
+use Rattle.frame_pass.specs.Stations.{slave_found, IsAlone, BringsBack}
+use Rattle.frame_pass.specs.Aside.{HaveSize}
+use Rattle.frame_pass.specs.Drift.{first_behind}
 use Rattle.named_slaves.specs.Standing.{HasAddress, own_address, AreStanding}
 use Rattle.named_slaves.specs.Mindful.{Names, AreMindful}
 use Rattle.named_slaves.specs.Addressed.{ByStation}

@@ -14,12 +14,10 @@ use Rattle.frame_pass.specs.FramePass.{slave_behind, slave_passed, datagrams_aft
 use Rattle.frame_pass.specs.Invariants.{IsSound, IsSoundSegment}
 use Rattle.frame_pass.specs.Reach.{reach_of}
 use Rattle.frame_pass.specs.SegmentState.{SegmentState, segment_step, leaves_at}
-use Rattle.frame_pass.proofs.Exported.{step_reached, step_stays, fixed_advanced, fixed_passed, same_step, kept_passed, plain_time}
-use Rattle.frame_pass.proofs.Exported.{plain_passed, HasSize, keeps_sound, visited}
-use Rattle.visit_laws.specs.Counters.{slave_before}
-use Rattle.visit_laws.specs.Drift.{first_behind}
-use Rattle.visit_laws.proofs.Exported.{first_is, is_plain, size_advanced}
-use Rattle.visit_laws.specs.Stations.{slave_found}
+use Rattle.frame_pass.proofs.Exported.{step_reached, step_stays, fixed_advanced, fixed_passed, same_step, kept_passed, plain_time, plain_passed, HasSize, keeps_sound, visited, first_is, is_plain, size_advanced}
+use Rattle.frame_pass.specs.Counters.{slave_before}
+use Rattle.frame_pass.specs.Drift.{first_behind}
+use Rattle.frame_pass.specs.Stations.{slave_found}
 use Rattle.named_slaves.specs.Standing.{IsSlave, HasAddress, Stands, AreStanding}
 use Rattle.named_slaves.specs.Mindful.{Names, AreMindful}
 use Rattle.named_slaves.proofs.Parts.{slave_stays, features_plain, status_plain}

@@ -15,8 +15,7 @@ use Rattle.frame_pass.specs.WriteEffects.{latched, compared, reset_by, activated
 use Rattle.frame_pass.specs.DatagramTable.{writes}
 use Rattle.frame_pass.specs.DatagramAtSlave.{doing, slave_after}
 use Rattle.frame_pass.specs.PlainRegisters.{IsPlain}
-use Rattle.frame_pass.proofs.Exported.{plain_datagram, HasSize}
-use Rattle.visit_laws.proofs.Exported.{size_after, is_shut, shut}
+use Rattle.frame_pass.proofs.Exported.{plain_datagram, HasSize, size_after, is_shut, shut}
 use Rattle.named_slaves.specs.Standing.{IsSlave}
 
 -- the kind

@@ -3,7 +3,7 @@ use Rattle.std.specs.Prelude.{◌≡◌, ℕ, ◌≤◌, true, List, length, Som
 use Rattle.ecat_frame.specs.FrameGrammar.{DatagramValue}
 use Rattle.esc_regs.specs.declared.clock_kind.ClockKind.{ClockKind}
 use Rattle.frame_pass.specs.SlaveState.{Slave}
-use Rattle.visit_laws.specs.Stations.{slave_found}
+use Rattle.frame_pass.specs.Stations.{slave_found}
 use Rattle.named_slaves.specs.Standing.{own_address, Stands, AreStanding}
 use Rattle.named_slaves.specs.Mindful.{AreMindful}
 

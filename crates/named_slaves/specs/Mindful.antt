@@ -7,7 +7,7 @@ use Rattle.ecat_frame.specs.declared.command.Command.TheVariants.{Apwr}
 use Rattle.esc_regs.specs.RegisterBytes.{AreApart}
 use Rattle.wrap_time.specs.WordLess.{word_less}
 use Rattle.frame_pass.specs.DatagramTable.{raised_by}
-use Rattle.visit_laws.specs.Aside.{never_writes}
+use Rattle.frame_pass.specs.Aside.{never_writes}
 use Rattle.named_slaves.specs.Standing.{own_address}
 
 -- the datagram by which the slave at position p is given its station address, as it comes to the slave at position q

@@ -6,8 +6,8 @@ use Rattle.frame_pass.specs.SlaveState.{Slave, station}
 use Rattle.frame_pass.specs.DatagramAtSlave.{slave_after}
 use Rattle.frame_pass.specs.FramePass.{datagrams_behind}
 use Rattle.frame_pass.specs.PlainRegisters.{AreLeft}
-use Rattle.visit_laws.specs.Aside.{HaveSize, never_writes}
-use Rattle.visit_laws.proofs.Exported.{apart_where_written, aside_behind}
+use Rattle.frame_pass.specs.Aside.{HaveSize, never_writes}
+use Rattle.frame_pass.proofs.Exported.{apart_where_written, aside_behind}
 use Rattle.master_script.specs.Config.{ConfigValue}
 use Rattle.master_script.specs.Frames.{latch_datagrams}
 use Rattle.master_script.specs.Steps.{datagrams_of}

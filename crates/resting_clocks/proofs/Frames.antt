@@ -11,8 +11,7 @@ use Rattle.frame_pass.specs.FramePass.{are_latching, at_arrival, datagrams_behin
 use Rattle.frame_pass.specs.Invariants.{IsSoundSegment}
 use Rattle.frame_pass.specs.Reach.{reach_of}
 use Rattle.frame_pass.specs.SegmentState.{SegmentState, leaves_at, segment_step}
-use Rattle.frame_pass.proofs.Exported.{fixed_passed}
-use Rattle.visit_laws.proofs.Exported.{never_latching, sizes_of, sound_at}
+use Rattle.frame_pass.proofs.Exported.{fixed_passed, never_latching, sizes_of, sound_at}
 use Rattle.master_script.specs.Frames.{latch_datagrams}
 use Rattle.honest_replies.proofs.Exported.{latch_for_measuring}
 use Rattle.honest_runs.specs.FileSlaves.{kind_at}

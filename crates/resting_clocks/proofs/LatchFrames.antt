@@ -8,9 +8,8 @@ use Rattle.frame_pass.specs.SlaveState.{Slave}
 use Rattle.frame_pass.specs.DatagramTable.{doing_by}
 use Rattle.frame_pass.specs.DatagramAtSlave.{datagram_after, doing, is_latching}
 use Rattle.frame_pass.specs.FramePass.{are_latching, at_arrival, datagrams_after, datagrams_behind, datagrams_passed}
-use Rattle.frame_pass.proofs.Exported.{fixed_advanced, HasSize}
-use Rattle.visit_laws.specs.Aside.{HaveSize}
-use Rattle.visit_laws.proofs.Exported.{same_size, size_advanced}
+use Rattle.frame_pass.proofs.Exported.{fixed_advanced, HasSize, same_size, size_advanced}
+use Rattle.frame_pass.specs.Aside.{HaveSize}
 use Rattle.master_script.specs.Frames.{latch_datagrams}
 
 -- a broadcast that writes the four bytes at 0x0900

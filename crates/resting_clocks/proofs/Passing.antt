@@ -15,10 +15,9 @@ use Rattle.frame_pass.specs.SlaveState.{Slave, Timing, Visits, holds, width}
 use Rattle.frame_pass.specs.ClockHistory.{HasHistory, IsOfTiming, events_passed}
 use Rattle.frame_pass.specs.FramePass.{are_latching, at_arrival, slave_passed}
 use Rattle.frame_pass.specs.PlainRegisters.{AreLeft}
-use Rattle.frame_pass.proofs.Exported.{fixed_passed, of_passed, of_start, HasSize}
-use Rattle.visit_laws.specs.ReceiveTimes.{AreInTurn, AreReceiveTimes, IsReceiveTime, port_time, until}
-use Rattle.visit_laws.specs.Rest.{AreResets}
-use Rattle.visit_laws.proofs.Exported.{quiet_passed, goes_behind, latched_passed, resets_passed}
+use Rattle.frame_pass.proofs.Exported.{fixed_passed, of_passed, of_start, HasSize, quiet_passed, goes_behind, latched_passed, resets_passed}
+use Rattle.frame_pass.specs.ReceiveTimes.{AreInTurn, AreReceiveTimes, IsReceiveTime, port_time, until}
+use Rattle.frame_pass.specs.Rest.{AreResets}
 use Rattle.resting_clocks.specs.Resting.{Rests, shown_at}
 use Rattle.resting_clocks.specs.HeldTimes.{HoldsTimes, back_into, port_register}
 use Rattle.resting_clocks.proofs.Resting.{Counts, counts_at}

@@ -8,7 +8,7 @@ use Rattle.local_clock.specs.StepRule.{Steering, elapsed, steered}
 use Rattle.local_clock.specs.Reading.{AreInOrder, Clock, Event, Happening, advanced, after_event, clock_at, received, reset, steering_of, ticks_to}
 use Rattle.local_clock.proofs.Exported.{is_after, is_until, rests}
 use Rattle.wrap_time.proofs.Exported.{sum_of_cut}
-use Rattle.visit_laws.specs.Rest.{AreResets, IsReset}
+use Rattle.frame_pass.specs.Rest.{AreResets, IsReset}
 
 module _ (x w : ℕ) (o : Oscillator) (run : IsRunning o) where
   -- it counts 10 ns a tick from x on

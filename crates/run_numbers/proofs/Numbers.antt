@@ -9,8 +9,7 @@ use Rattle.master_script.specs.Progress.{Phase as ScriptPhase, Commissioning, Se
 use Rattle.master_script.specs.Script.{script, Call, Commission, Settle, Arm, Run, next_in, next_by}
 use Rattle.master_script.specs.Scripted.{AreScripted, none, more}
 use Rattle.master_script.specs.declared.step.Refusal.{Refusal}
-use Rattle.master_script.proofs.Exported.{after_counts, after_drifts, progress_sent, progress_push, sends_most, phase_of as phase_of_call}
-use Rattle.master_script.proofs.Exported.{wants, wanted_drift, wanted_other}
+use Rattle.master_script.proofs.Exported.{after_counts, after_drifts, progress_sent, progress_push, sends_most, phase_of as phase_of_call, wants, wanted_drift, wanted_other}
 use Rattle.segment_shape.specs.declared.loss_row.Phase.{Phase}
 use Rattle.segment_shape.specs.declared.loss_row.Phase.TheVariants as frames
 use Rattle.frame_pass.specs.SegmentState.{SegmentState, segment_step, phase_of}

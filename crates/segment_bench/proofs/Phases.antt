@@ -10,8 +10,7 @@ use Rattle.master_script.specs.declared.step.MasterError.{MasterError}
 use Rattle.master_script.specs.declared.step.Stage.TheVariants.{Ended}
 use Rattle.run_of_file.specs.AtEnd.{IsAtEnd}
 use Rattle.run_of_file.specs.RunOfFile.{commissioned, settled, armed, ran, end_of_run, frames_given}
-use Rattle.run_of_file.proofs.Exported.{commissioned_by, settled_by, armed_by, ran_by, ran_few, commissioned_ends, settled_ends, armed_ends}
-use Rattle.run_of_file.proofs.Exported.{ran_ends, whole_ends_so}
+use Rattle.run_of_file.proofs.Exported.{commissioned_by, settled_by, armed_by, ran_by, ran_few, commissioned_ends, settled_ends, armed_ends, ran_ends, whole_ends_so}
 use Rattle.segment_file.specs.Legal.{IsLegal}
 use Rattle.segment_file.specs.Segment.{SegmentValue}
 use Rattle.segment_bench.specs.BenchRun.{HasRun}

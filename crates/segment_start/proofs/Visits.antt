@@ -16,7 +16,7 @@ use Rattle.segment_file.specs.Segment.{SegmentValue, row_at, row_of, tree_rows}
 use Rattle.segment_file.specs.Legal.{IsLegal}
 use Rattle.segment_file.proofs.Exported.{row_within, rows_many}
 use Rattle.frame_pass.specs.SlaveState.{Slave}
-use Rattle.visit_laws.specs.ReceiveTimes.{AreInTurn, until}
+use Rattle.frame_pass.specs.ReceiveTimes.{AreInTurn, until}
 use Rattle.segment_start.specs.Start.{registers_of, slave_of, started_segment, timing_by, visits_of}
 use Rattle.segment_start.proofs.Starts.{as_many, stands_at}
 

@@ -10,7 +10,7 @@ ghost use Rattle.frame_pass.specs.SlaveState.{Slave, Timing, width};
 ghost use Rattle.frame_pass.specs.SegmentState.{leaves_at};
 ghost use Rattle.frame_pass.specs.Invariants.{IsSoundSegment, IsUnsent, after_frames};
 ghost use Rattle.frame_pass.specs.ClockHistory.{HasHistory};
-ghost use Rattle.visit_laws.specs.ReceiveTimes.{AreInTurn};
+ghost use Rattle.frame_pass.specs.ReceiveTimes.{AreInTurn};
 ghost use Rattle.segment_start.specs.Start.{registers_of, visits_of, timing_by, slave_of, started_segment};
 
 /// Nothing was sent yet, and every slave stands at true time 0, with 4096 bytes of registers and visits within the

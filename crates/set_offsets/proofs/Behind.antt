@@ -10,8 +10,7 @@ use Rattle.frame_pass.specs.Invariants.{IsSoundSegment}
 use Rattle.frame_pass.specs.PlainRegisters.{IsPlain}
 use Rattle.frame_pass.specs.SegmentState.{SegmentState, finished}
 use Rattle.frame_pass.specs.SlaveState.{FixedPart, Slave, fixed_part, holds}
-use Rattle.frame_pass.proofs.Exported.{finished_at, same_finished, same_step, plain_time}
-use Rattle.visit_laws.proofs.Exported.{sound_at}
+use Rattle.frame_pass.proofs.Exported.{finished_at, same_finished, same_step, plain_time, sound_at}
 use Rattle.master_script.specs.Progress.{progress}
 use Rattle.master_script.specs.Script.{Answer}
 use Rattle.master_script.specs.Words.{Words, delay_at, offset_at}

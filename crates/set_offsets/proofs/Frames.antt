@@ -11,9 +11,8 @@ use Rattle.frame_pass.specs.Invariants.{IsSound, IsSoundSegment}
 use Rattle.frame_pass.specs.Reach.{reach_of}
 use Rattle.frame_pass.specs.SegmentState.{SegmentState, leaves_at, segment_step}
 use Rattle.frame_pass.specs.SlaveState.{Slave, delay, offset}
-use Rattle.frame_pass.proofs.Exported.{step_reached, timely_leaving}
-use Rattle.visit_laws.specs.Aside.{AreAside, HaveSize, never_writes}
-use Rattle.visit_laws.proofs.Exported.{aside_behind, left_by}
+use Rattle.frame_pass.proofs.Exported.{step_reached, timely_leaving, aside_behind, left_by, sizes_of, sound_at}
+use Rattle.frame_pass.specs.Aside.{AreAside, HaveSize, never_writes}
 use Rattle.master_script.specs.Config.{ConfigValue}
 use Rattle.master_script.specs.Frames.{set_datagrams, width as bytes_by}
 use Rattle.master_script.specs.Steps.{datagrams_of}
@@ -26,7 +25,6 @@ use Rattle.named_slaves.proofs.Exported.{Had, had_before, low_where, same_many, 
 use Rattle.honest_replies.specs.Told.{AreInOrder}
 use Rattle.resting_clocks.specs.Far.{AreFar}
 use Rattle.resting_clocks.proofs.Exported.{far_behind, far_left, each_after}
-use Rattle.visit_laws.proofs.Exported.{sizes_of, sound_at}
 use Rattle.set_offsets.proofs.Registers.{HoldsOn, on_same, passed_on}
 use Rattle.set_offsets.proofs.Writing.{delay_set, offset_set}
 

@@ -36,9 +36,7 @@ use Rattle.honest_runs.proofs.Exported.{IsLate, row_has, came_back}
 use Rattle.run_of_file.specs.MasterOfFile.{master_of}
 use Rattle.run_of_file.specs.RunOfFile.{RunEnd, commissioned, turns}
 use Rattle.resting_clocks.specs.Far.{AreFar}
-use Rattle.latch_times.proofs.Exported.{at_end, late as late_at_end, latched, IsFirst, IsJudged, IsLatched, IsMeasuring, IsOpen}
-use Rattle.latch_times.proofs.Exported.{IsUnjudged, first_asked, rate_asked, reading_steps, wide_told, IsAsked, IsOnWay, after_is, asks}
-use Rattle.latch_times.proofs.Exported.{first_clock, late_of, phase, sends_step, starts, unrefused, walk}
+use Rattle.latch_times.proofs.Exported.{at_end, late as late_at_end, latched, IsFirst, IsJudged, IsLatched, IsMeasuring, IsOpen, IsUnjudged, first_asked, rate_asked, reading_steps, wide_told, IsAsked, IsOnWay, after_is, asks, first_clock, late_of, phase, sends_step, starts, unrefused, walk}
 use Rattle.set_offsets.specs.HeldOffsets.{AreSet, HoldsSet}
 use Rattle.set_offsets.proofs.Delays.{delay_few}
 use Rattle.set_offsets.proofs.Frames.{AreHeldOn, IsBefore, before_held, far_before, others_held, own_delay, own_offset}

@@ -8,14 +8,13 @@ use Rattle.esc_regs.specs.declared.clock_kind.ClockKind.TheVariants as kind
 use Rattle.frame_pass.specs.Advancing.{measuring_at}
 use Rattle.frame_pass.specs.LiveRegisters.{system_time}
 use Rattle.frame_pass.specs.SlaveState.{Slave, Timing, offset, width}
-use Rattle.frame_pass.proofs.Exported.{of_start}
+use Rattle.frame_pass.proofs.Exported.{of_start, time_then, sound_at}
 use Rattle.osc_clock.specs.Ticks.{IsRunning, ticks}
 use Rattle.osc_clock.proofs.Exported.{ticks_rise}
 use Rattle.local_clock.specs.Reading.{advanced}
 use Rattle.wrap_time.specs.WordLess.{word_less}
 use Rattle.wrap_time.proofs.Exported.{difference_of_cut, offset_sum}
-use Rattle.visit_laws.specs.Copies.{copy_at}
-use Rattle.visit_laws.proofs.Exported.{time_then}
+use Rattle.frame_pass.specs.Copies.{copy_at}
 use Rattle.master_script.specs.Progress.{progress}
 use Rattle.master_script.specs.Words.{Words, delay_at, offset_at}
 use Rattle.segment_file.specs.Legal.{IsLegal}
@@ -27,7 +26,6 @@ use Rattle.resting_clocks.specs.Resting.{Rests, row_there, shown_at, time_at}
 use Rattle.resting_clocks.specs.OfFile.{IsFixed}
 use Rattle.resting_clocks.proofs.Exported.{keeps_there, kind_there, measures_there, counts_on}
 use Rattle.latch_times.proofs.Exported.{way_of, IsOnWay}
-use Rattle.visit_laws.proofs.Exported.{sound_at}
 use Rattle.set_offsets.specs.HeldOffsets.{HoldsSet}
 use Rattle.set_offsets.specs.SinceLatch.{counted_ns, latch_arrival}
 use Rattle.set_offsets.proofs.Delays.{delay_few}

@@ -19,10 +19,9 @@ use Rattle.frame_pass.specs.FramePass.{at_arrival, datagrams_after, datagrams_be
 use Rattle.frame_pass.specs.Invariants.{IsSound}
 use Rattle.frame_pass.specs.PlainRegisters.{IsPlain}
 use Rattle.frame_pass.specs.SlaveState.{Slave, delay, holds, offset, station, width}
-use Rattle.frame_pass.proofs.Exported.{fixed_passed, plain_datagram, plain_passed, HasSize}
-use Rattle.visit_laws.specs.Counters.{slave_before}
-use Rattle.visit_laws.specs.Stations.{IsAlone, slave_found}
-use Rattle.visit_laws.proofs.Exported.{found, station_written, stores_number}
+use Rattle.frame_pass.proofs.Exported.{fixed_passed, plain_datagram, plain_passed, HasSize, found, station_written, stores_number}
+use Rattle.frame_pass.specs.Counters.{slave_before}
+use Rattle.frame_pass.specs.Stations.{IsAlone, slave_found}
 use Rattle.master_script.specs.Frames.{asks, set_datagrams, station as address_of, width as bytes_by}
 use Rattle.named_slaves.specs.Mindful.{AreMindful}
 use Rattle.named_slaves.specs.Standing.{Stands, own_address}

@@ -4,7 +4,7 @@ ghost use Rattle.std.specs.Prelude.{◌≡◌, ℕ, ◌+◌, ◌%◌, ◌^◌, �
 ghost use Rattle.frame_pass.specs.Advancing.{measuring_at};
 ghost use Rattle.frame_pass.specs.LiveRegisters.{system_time};
 ghost use Rattle.frame_pass.specs.SlaveState.{Slave, Timing, offset as held_offset, width};
-ghost use Rattle.visit_laws.specs.Copies.{copy_at};
+ghost use Rattle.frame_pass.specs.Copies.{copy_at};
 ghost use Rattle.master_script.specs.Offset.{offset};
 ghost use Rattle.master_script.specs.Words.{delay_at, offset_at};
 ghost use Rattle.segment_file.specs.Legal.{IsLegal};

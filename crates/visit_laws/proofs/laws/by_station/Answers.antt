@@ -1,8 +1,0 @@
-use Rattle.visit_laws.proofs.Stations.{station_read, station_written}
-use Rattle.visit_laws.proofs.laws.by_station.Goals as goal
-
-pub returns-clause-read : goal.returns-clause-read
-returns-clause-read c = station_read
-
-pub returns-clause-written : goal.returns-clause-written
-returns-clause-written c = station_written

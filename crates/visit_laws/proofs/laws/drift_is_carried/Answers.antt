@@ -1,8 +1,0 @@
-use Rattle.visit_laws.proofs.Drifting.{first_is, carried}
-use Rattle.visit_laws.proofs.laws.drift_is_carried.Goals as goal
-
-pub returns-clause-first : goal.returns-clause-first
-returns-clause-first c = first_is
-
-pub returns-clause-time : goal.returns-clause-time
-returns-clause-time c = carried
