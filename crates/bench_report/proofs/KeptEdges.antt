@@ -5,7 +5,7 @@ use Rattle.std.specs.List.{AllByRecursion, range_with_len}
 use Rattle.std.specs.Option.{option_map_or}
 use Rattle.std.proofs.lemmas.List.{length-map}
 use Rattle.cable_tree.specs.FrameOrder.{order}
-use Rattle.edge_numbers.specs.Numbered.{AreNumberedSlaves, HasNumbers}
+use Rattle.segment_start.specs.Numbered.{AreNumberedSlaves, HasNumbers}
 use Rattle.esc_regs.specs.declared.clock_kind.ClockKind.{ClockKind}
 use Rattle.esc_regs.specs.declared.clock_kind.ClockKind.TheVariants as kind
 use Rattle.frame_pass.specs.SegmentState.{SegmentState}

@@ -2,8 +2,8 @@
 use Rattle.std.proofs.Common.{◌≡◌, ℕ, map, Option, Some, None, refl, sym, subst, ◌∙◌}
 use Rattle.std.specs.Prelude.{Ok, Err, option_map}
 use Rattle.dc_bench.specs.BenchState.{BenchState}
-use Rattle.edge_numbers.specs.Numbered.{AreNumberedSlaves}
-use Rattle.edge_numbers.proofs.Exported.{numbers_begin, numbers_step, numbers_finished}
+use Rattle.segment_start.specs.Numbered.{AreNumberedSlaves}
+use Rattle.segment_start.proofs.Exported.{numbers_begin, numbers_step, numbers_finished}
 use Rattle.frame_pass.specs.SegmentState.{SegmentState, finished}
 use Rattle.frame_pass.specs.SlaveState.{fixed_part}
 use Rattle.frame_pass.proofs.Exported.{same_step, same_finished}

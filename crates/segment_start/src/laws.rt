@@ -7,11 +7,12 @@ ghost use Rattle.segment_file.specs.Segment.{SegmentValue, row_at, row_of, tree_
 ghost use Rattle.segment_file.specs.Legal.{IsLegal};
 ghost use Rattle.dc_topology.specs.Status.{status_of};
 ghost use Rattle.frame_pass.specs.SlaveState.{Slave, Timing, width};
-ghost use Rattle.frame_pass.specs.SegmentState.{leaves_at};
+ghost use Rattle.frame_pass.specs.SegmentState.{leaves_at, SegmentState, segment_step, finished};
 ghost use Rattle.frame_pass.specs.Invariants.{IsSoundSegment, IsUnsent, after_frames};
 ghost use Rattle.frame_pass.specs.ClockHistory.{HasHistory};
 ghost use Rattle.frame_pass.specs.ReceiveTimes.{AreInTurn};
 ghost use Rattle.segment_start.specs.Start.{registers_of, visits_of, timing_by, slave_of, started_segment};
+ghost use Rattle.segment_start.specs.Numbered.{AreNumberedSlaves};
 
 /// Nothing was sent yet, and every slave stands at true time 0, with 4096 bytes of registers and visits within the
 /// round trip. So time goes on from there (the law of `frame_pass` on times).
@@ -57,4 +58,12 @@ pub fn clocks_begin()
 pub fn sending_times()
     ensures { (s : SegmentValue) (fs : List FrameValue) → IsLegal s → length fs < 1000000
         → leaves_at (after_frames s.head.frame_ns fs (started_segment s)) s.head.frame_ns ≡ (length fs + 1) * (1000000 * s.head.frame_ns) }
+{}
+
+/// The edges that each slave keeps of each signal are numbered 0, 1, 2 and so on: so it is where a legal segment begins,
+/// and every sending and every finish leaves it so.
+pub fn edges_are_numbered()
+    ensures start { (s : SegmentValue) → IsLegal s → AreNumberedSlaves (started_segment s).slaves }
+    ensures step { (s : SegmentState) (wait_ns : ℕ) (f : FrameValue) → AreNumberedSlaves s.slaves → AreNumberedSlaves (segment_step s wait_ns f).0.slaves }
+    ensures finish { (t : ℕ) (s : SegmentState) → AreNumberedSlaves s.slaves → AreNumberedSlaves (finished t s).slaves }
 {}

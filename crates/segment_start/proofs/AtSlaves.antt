@@ -15,8 +15,8 @@ use Rattle.frame_pass.specs.Advancing.{advanced_to, measuring_at, ticked_to}
 use Rattle.frame_pass.specs.WriteEffects.{latched, compared, reset_by, activated, affected, wrote, arms, sync1_by}
 use Rattle.frame_pass.specs.FramePass.{port_latched}
 use Rattle.frame_pass.proofs.Exported.{Keeps}
-use Rattle.edge_numbers.specs.Numbered.{AreNumbered, IsArmedBy, HasNumbers, IsNumberedSlave}
-use Rattle.edge_numbers.proofs.Numbering.{going_ticks}
+use Rattle.segment_start.specs.Numbered.{AreNumbered, IsArmedBy, HasNumbers, IsNumberedSlave}
+use Rattle.segment_start.proofs.Numbering.{going_ticks}
 
 -- a unit and its edges over an interval
 numbered_to : (w : ℕ) (c : Clock) (offset t : ℕ) (u : Option Armed) (l : Kept) → AreNumbered l → IfSome u (IsArmedBy l)

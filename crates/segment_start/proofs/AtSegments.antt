@@ -16,8 +16,8 @@ use Rattle.frame_pass.specs.FramePass.{slaves_passed, end_of}
 use Rattle.frame_pass.specs.SegmentState.{SegmentState, segment_step, leaves_at, carried, numbered, leaving, number_of, phase_of, finished}
 use Rattle.frame_pass.proofs.Exported.{IsVisited, kept_by_all}
 use Rattle.segment_start.specs.Start.{slave_of, timing_by, started_segment}
-use Rattle.edge_numbers.specs.Numbered.{HasNumbers, IsNumberedSlave, AreNumberedSlaves}
-use Rattle.edge_numbers.proofs.AtSlaves.{none_kept, numbered_at, keeps_numbers}
+use Rattle.segment_start.specs.Numbered.{HasNumbers, IsNumberedSlave, AreNumberedSlaves}
+use Rattle.segment_start.proofs.AtSlaves.{none_kept, numbered_at, keeps_numbers}
 
 -- any time will do
 any_back : (sent : ℕ) (o : Option ℕ) → IfSome o (λ at. ⊤)

@@ -15,7 +15,7 @@ use Rattle.sync_units.specs.Edges.{edges_of, is_same}
 use Rattle.sync_units.specs.SyncRule.{Due, Armed, moved_on, due_after_tick, raised, after_tick, tick_edges, after_ticks, ticks_edges}
 use Rattle.sync_units.specs.KeptEdges.{Kept, room, edges_with, with_edge, put, put_all}
 use Rattle.sync_units.proofs.Exported.{put_all-append}
-use Rattle.edge_numbers.specs.Numbered.{IsNumberedSignal, AreNumbered, IsDueBy, IsArmedBy}
+use Rattle.segment_start.specs.Numbered.{IsNumberedSignal, AreNumbered, IsDueBy, IsArmedBy}
 
 -- one number more
 range_more : (a n : ℕ) → range_with_len a (suc n) ≡ range_with_len a n ++ (a + n) ∷ []

@@ -1,4 +1,0 @@
-mod Numbering
-mod AtSlaves
-mod AtSegments
-pub mod Exported
