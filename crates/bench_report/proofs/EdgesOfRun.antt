@@ -5,7 +5,7 @@ use Rattle.std.proofs.lemmas.Bool.Decides.{nat_tests}
 use Rattle.std.proofs.lemmas.List.{append-nil, length-map}
 use Rattle.std.proofs.lemmas.List.Elements.{All-append, All-nil, All-weaker, filter-append}
 use Rattle.std.proofs.lemmas.List.FromFn.{length-range_with_len}
-use Rattle.armed_signals.specs.OwnSignals.{AllKeepTo, signals_at}
+use Rattle.honest_slaves.specs.OwnSignals.{AllKeepTo, signals_at}
 use Rattle.edge_report.specs.Edges.{AreCounted, AreEdges, IsEdge, edges_of, is_of}
 use Rattle.edge_report.specs.declared.slave_edge.SlaveEdge.{SlaveEdge}
 use Rattle.edge_report.proofs.Exported.{keeps_none}

@@ -3,7 +3,7 @@ use Rattle.std.proofs.Common.{◌∙◌, map, None, is_some, ap}
 use Rattle.std.specs.Prelude.{Ok}
 use Rattle.dc_bench.specs.BenchState.{BenchState}
 use Rattle.edge_report.specs.Delays.{AreDelays}
-use Rattle.honest_runs.proofs.Exported.{delays_whole}
+use Rattle.honest_slaves.proofs.Exported.{delays_whole}
 use Rattle.master_script.specs.Kept.{Kept}
 use Rattle.run_answers.proofs.Exported.{whole_delays}
 use Rattle.run_of_file.specs.AtEnd.{IsAtEnd}

@@ -5,8 +5,8 @@ use Rattle.std.specs.List.{All}
 use Rattle.std.specs.Option.{option_map_or}
 use Rattle.std.proofs.lemmas.Bool.Decides.{nat_tests}
 use Rattle.std.proofs.lemmas.List.Elements.{All-cons, All-nil}
-use Rattle.armed_signals.specs.OwnSignals.{AllKeepTo, AreOf, KeepsTo, SlaveKeepsTo, has_signal, signals_at}
-use Rattle.armed_signals.proofs.Exported.{whole_keeps}
+use Rattle.honest_slaves.specs.OwnSignals.{AllKeepTo, AreOf, KeepsTo, SlaveKeepsTo, has_signal, signals_at}
+use Rattle.honest_slaves.proofs.Exported.{whole_keeps}
 use Rattle.dc_bench.specs.BenchState.{BenchState}
 use Rattle.edge_report.specs.Edges.{HasSignal, IsEdge, edges_of, is_of, rank}
 use Rattle.edge_report.specs.Slaves.{slave_at}

@@ -34,10 +34,9 @@ use Rattle.master_script.specs.Progress.{Progress, progress}
 use Rattle.master_script.specs.Slaves.{SlaveWords, is_clock, tree_told}
 use Rattle.master_script.specs.Words.{Words, delays_of, hung_of, hung_or_none}
 use Rattle.master_script.proofs.Exported.{tree_listed, tree_refused}
-use Rattle.honest_replies.specs.Told.{word_of, words_of}
-use Rattle.honest_replies.proofs.Exported.{clock_word, flagged}
-use Rattle.honest_runs.specs.FileSlaves.{kind_at, status_at}
-use Rattle.honest_runs.proofs.Exported.{delays_there, row_has}
+use Rattle.honest_slaves.specs.Told.{word_of, words_of}
+use Rattle.honest_slaves.proofs.Exported.{clock_word, flagged, delays_there, row_has}
+use Rattle.honest_slaves.specs.FileSlaves.{kind_at, status_at}
 use Rattle.run_of_file.specs.MasterOfFile.{kind_of, master_of}
 use Rattle.run_of_file.specs.RunOfFile.{RunEnd, commissioned, master_after}
 use Rattle.delay_law.specs.NearDelays.{AreNear}

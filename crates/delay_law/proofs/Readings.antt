@@ -24,7 +24,7 @@ use Rattle.segment_file.specs.Legal.{IsLegal}
 use Rattle.segment_file.specs.Segment.{RowValue, SegmentValue, measures_at, oscillator, row_at, tree_rows}
 use Rattle.segment_file.proofs.Exported.{rows_many}
 use Rattle.segment_shape.specs.Slaves.{measures}
-use Rattle.honest_runs.proofs.Exported.{row_has}
+use Rattle.honest_slaves.proofs.Exported.{row_has}
 use Rattle.resting_clocks.specs.Resting.{row_there, shown_at}
 use Rattle.latch_times.specs.ToldTimes.{AreTold, TellsTimes}
 use Rattle.resting_clocks.proofs.Exported.{keeps_there, Counts, counts_on}

@@ -17,7 +17,7 @@ use Rattle.run_numbers.proofs.Exported.{some_kinds}
 use Rattle.segment_file.specs.Legal.{IsLegal}
 use Rattle.segment_file.specs.Segment.{SegmentValue, clock_at, tree_rows}
 use Rattle.segment_file.proofs.Exported.{order_many}
-use Rattle.honest_runs.proofs.Exported.{delays_whole}
+use Rattle.honest_slaves.proofs.Exported.{delays_whole}
 use Rattle.delay_law.specs.NearDelays.{AreNear}
 use Rattle.delay_law.proofs.Near.{commissioned_near}
 

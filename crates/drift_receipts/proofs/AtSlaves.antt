@@ -15,12 +15,11 @@ use Rattle.frame_pass.specs.FramePass.{at_arrival, datagrams_behind}
 use Rattle.frame_pass.specs.LiveRegisters.{system_time}
 use Rattle.frame_pass.specs.SlaveState.{Slave, Timing, station}
 use Rattle.frame_pass.specs.WriteEffects.{difference}
-use Rattle.honest_replies.specs.Told.{AreInOrder}
-use Rattle.honest_replies.proofs.Exported.{time_for_clocks}
+use Rattle.honest_slaves.specs.Told.{AreInOrder}
+use Rattle.honest_slaves.proofs.Exported.{time_for_clocks, low_where}
 use Rattle.local_clock.specs.Reading.{Happening, received}
 use Rattle.master_script.specs.Frames.{drift_datagram}
-use Rattle.named_slaves.specs.Standing.{Stands, own_address}
-use Rattle.named_slaves.proofs.Exported.{low_where}
+use Rattle.honest_slaves.specs.Standing.{Stands, own_address}
 use Rattle.segment_shape.specs.Slaves.{has_clock}
 use Rattle.frame_pass.specs.Aside.{HaveSize}
 use Rattle.frame_pass.specs.Drift.{IsDrift, IsOther, first_behind}

@@ -17,9 +17,9 @@ use Rattle.frame_pass.specs.Reach.{reach_of, reached_by}
 use Rattle.frame_pass.specs.SegmentState.{SegmentState, leaves_at}
 use Rattle.frame_pass.specs.SlaveState.{Slave, Timing}
 use Rattle.esc_regs.specs.RegisterFile.{Registers}
-use Rattle.honest_runs.specs.FileSlaves.{kind_at, status_at}
+use Rattle.honest_slaves.specs.FileSlaves.{kind_at, status_at}
 use Rattle.local_clock.specs.Reading.{Happening, received}
-use Rattle.named_slaves.proofs.Exported.{low_where}
+use Rattle.honest_slaves.proofs.Exported.{low_where}
 use Rattle.run_schedule.proofs.Exported.{one_drift_comes}
 use Rattle.segment_file.specs.Legal.{IsLegal}
 use Rattle.segment_file.specs.Segment.{SegmentValue}

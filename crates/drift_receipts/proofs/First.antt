@@ -8,8 +8,8 @@ use Rattle.cable_tree.specs.PathSums.{arrive}
 use Rattle.cable_tree.proofs.Exported.{order_pair, order_at, row_within as position_within}
 use Rattle.dc_bounds.proofs.Exported.{reference_first, reference_timed, reference_within}
 use Rattle.drift_receipts.specs.Receipts.{IsReference}
-use Rattle.honest_runs.specs.FileSlaves.{kind_at}
-use Rattle.honest_runs.proofs.Exported.{row_has}
+use Rattle.honest_slaves.specs.FileSlaves.{kind_at}
+use Rattle.honest_slaves.proofs.Exported.{row_has}
 use Rattle.segment_file.specs.Legal.{IsLegal}
 use Rattle.segment_file.specs.Segment.{SegmentValue, clock_at, row_at, tree_row, tree_rows}
 use Rattle.segment_file.proofs.Exported.{order_many, row_within}

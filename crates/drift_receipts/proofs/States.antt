@@ -20,10 +20,9 @@ use Rattle.frame_pass.specs.Reach.{reach_of, reached_by}
 use Rattle.frame_pass.specs.SegmentState.{SegmentState, leaves_at, number_of, phase_of, segment_step}
 use Rattle.frame_pass.specs.SlaveState.{FixedPart, Slave, Timing, fixed_part}
 use Rattle.frame_pass.proofs.Exported.{same_step, timely_step}
-use Rattle.honest_replies.specs.Told.{AreInOrder, IsNear}
-use Rattle.honest_replies.proofs.Exported.{mindful_step}
-use Rattle.honest_runs.specs.FileSlaves.{kind_at, status_at}
-use Rattle.honest_runs.proofs.Exported.{commissioned_late, order_stays, sent_by}
+use Rattle.honest_slaves.specs.Told.{AreInOrder, IsNear}
+use Rattle.honest_slaves.proofs.Exported.{mindful_step, commissioned_late, order_stays, sent_by, low_where}
+use Rattle.honest_slaves.specs.FileSlaves.{kind_at, status_at}
 use Rattle.master_script.specs.Config.{ConfigValue}
 use Rattle.master_script.specs.Kept.{kept_after}
 use Rattle.master_script.specs.Progress.{progress}
@@ -34,8 +33,7 @@ use Rattle.master_script.specs.Words.{reference_of}
 use Rattle.master_script.specs.declared.step.Step.{Step}
 use Rattle.master_script.specs.declared.step.Step.TheVariants.{Count, Identify, Rate, Latch, Times, Set, Settle, Drift, Arm}
 use Rattle.master_script.proofs.Exported.{progress_sent, stays_kept, wants, StepWithin}
-use Rattle.named_slaves.specs.Mindful.{AreMindful}
-use Rattle.named_slaves.proofs.Exported.{low_where}
+use Rattle.honest_slaves.specs.Mindful.{AreMindful}
 use Rattle.run_of_file.specs.MasterOfFile.{master_of}
 use Rattle.run_of_file.specs.RunOfFile.{frames_given}
 use Rattle.run_of_file.proofs.Exported.{commissioned_on, commissioned_from, kept_by_runs, as_many_kinds, few_rows}

@@ -11,7 +11,7 @@ use Rattle.frame_pass.specs.LiveRegisters.{system_time}
 use Rattle.frame_pass.specs.Reach.{reach_of}
 use Rattle.frame_pass.specs.SegmentState.{SegmentState, leaves_at, segment_step}
 use Rattle.frame_pass.specs.SlaveState.{Slave, Timing}
-use Rattle.honest_runs.specs.FileSlaves.{kind_at}
+use Rattle.honest_slaves.specs.FileSlaves.{kind_at}
 use Rattle.local_clock.specs.Reading.{Happening, received}
 use Rattle.run_of_file.specs.RunOfFile.{RunEnd, commissioned, ran}
 use Rattle.segment_file.specs.Segment.{SegmentValue, reference_row, tree_rows}

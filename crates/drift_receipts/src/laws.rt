@@ -5,7 +5,7 @@ ghost use Rattle.drift_receipts.specs.Receipts.{IsDriftFrame, IsReference, broug
 ghost use Rattle.ecat_link.specs.Exchanges.{Exchange};
 ghost use Rattle.frame_pass.specs.SegmentState.{SegmentState, leaves_at};
 ghost use Rattle.frame_pass.specs.SlaveState.{Slave};
-ghost use Rattle.honest_runs.specs.FileSlaves.{kind_at};
+ghost use Rattle.honest_slaves.specs.FileSlaves.{kind_at};
 ghost use Rattle.segment_file.specs.Legal.{IsLegal};
 ghost use Rattle.segment_file.specs.Segment.{SegmentValue};
 ghost use Rattle.segment_shape.specs.Slaves.{has_clock};

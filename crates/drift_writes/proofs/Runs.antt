@@ -12,7 +12,7 @@ use Rattle.ecat_link.specs.Serves.{Send}
 use Rattle.frame_pass.specs.Invariants.{IsSoundSegment}
 use Rattle.frame_pass.specs.SegmentState.{phase_of}
 use Rattle.frame_pass.specs.SlaveState.{Slave, holds}
-use Rattle.honest_runs.proofs.Exported.{sent_by}
+use Rattle.honest_slaves.proofs.Exported.{sent_by}
 use Rattle.master_script.specs.Config.{ConfigValue}
 use Rattle.master_script.specs.Progress.{progress}
 use Rattle.master_script.specs.Script.{Answer, Call, script}

@@ -15,8 +15,8 @@ use Rattle.master_script.specs.Progress.{Commissioning, Settling, Progress, late
 use Rattle.master_script.specs.Script.{Answer, Commission, script}
 use Rattle.master_script.specs.declared.step.Step.TheVariants.{Latch as LatchStep}
 use Rattle.master_script.proofs.Exported.{commission_done}
-use Rattle.honest_runs.specs.FileSlaves.{kind_at, status_at}
-use Rattle.honest_runs.proofs.Exported.{IsLate, row_has}
+use Rattle.honest_slaves.specs.FileSlaves.{kind_at, status_at}
+use Rattle.honest_slaves.proofs.Exported.{IsLate, row_has}
 use Rattle.run_of_file.specs.MasterOfFile.{master_of}
 use Rattle.run_of_file.specs.RunOfFile.{RunEnd, commissioned, turns}
 use Rattle.resting_clocks.specs.HeldTimes.{AllHold}

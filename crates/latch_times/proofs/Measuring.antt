@@ -20,9 +20,9 @@ use Rattle.master_script.specs.Words.{Words, wide_at}
 use Rattle.master_script.specs.declared.step.Refusal.{Refusal}
 use Rattle.master_script.specs.declared.step.Step.{Step}
 use Rattle.master_script.specs.declared.step.Step.TheVariants.{Count, Identify, Rate, Latch as LatchStep, Times, Set, Settle, Drift, Arm}
-use Rattle.honest_replies.specs.Told.{words_of}
-use Rattle.honest_replies.proofs.Exported.{measuring_word, flagged, words_many}
-use Rattle.honest_runs.specs.FileSlaves.{kind_at, status_at}
+use Rattle.honest_slaves.specs.Told.{words_of}
+use Rattle.honest_slaves.proofs.Exported.{measuring_word, flagged, words_many}
+use Rattle.honest_slaves.specs.FileSlaves.{kind_at, status_at}
 use Rattle.resting_clocks.specs.HeldTimes.{AllHold}
 use Rattle.latch_times.specs.ToldTimes.{TellsTimes}
 use Rattle.resting_clocks.proofs.Exported.{IsReading}

@@ -33,11 +33,9 @@ use Rattle.master_script.specs.Words.{wide_at}
 use Rattle.master_script.specs.declared.step.Step.{Step}
 use Rattle.master_script.specs.declared.step.Step.TheVariants.{Count, Identify, Rate, Latch as LatchStep, Times, Set}
 use Rattle.master_script.proofs.Exported.{progress_push, wants, IsOf}
-use Rattle.named_slaves.proofs.Exported.{had_before, same_many}
-use Rattle.honest_replies.specs.Told.{IsMeant}
-use Rattle.honest_replies.proofs.Exported.{mindful_step}
-use Rattle.honest_runs.specs.FileSlaves.{kind_at, status_at}
-use Rattle.honest_runs.proofs.Exported.{IsHonest, IsLate, begins, judged_ok, came_back, sent_by, honest_turn}
+use Rattle.honest_slaves.proofs.Exported.{had_before, same_many, mindful_step, IsHonest, IsLate, begins, judged_ok, came_back, sent_by, honest_turn}
+use Rattle.honest_slaves.specs.Told.{IsMeant}
+use Rattle.honest_slaves.specs.FileSlaves.{kind_at, status_at}
 use Rattle.run_of_file.specs.MasterOfFile.{master_of}
 use Rattle.run_of_file.specs.RunOfFile.{frames_given}
 use Rattle.run_of_file.proofs.Exported.{as_many_kinds, some_rows}

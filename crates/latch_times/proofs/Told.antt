@@ -21,13 +21,12 @@ use Rattle.frame_pass.specs.Aside.{never_writes}
 use Rattle.frame_pass.proofs.Exported.{idle, is_sent, times_left, Found, found}
 use Rattle.master_script.specs.Frames.{asks, blank, station, times_datagrams, width}
 use Rattle.master_script.specs.Steps.{data_at, latch_in}
-use Rattle.named_slaves.specs.Addressed.{ByStation}
-use Rattle.named_slaves.specs.Mindful.{AreMindful}
-use Rattle.named_slaves.specs.Standing.{Stands, own_address}
-use Rattle.named_slaves.proofs.Exported.{read_there, found_standing, low_where}
-use Rattle.honest_replies.specs.Told.{AreInOrder}
+use Rattle.honest_slaves.specs.Addressed.{ByStation}
+use Rattle.honest_slaves.specs.Mindful.{AreMindful}
+use Rattle.honest_slaves.specs.Standing.{Stands, own_address}
+use Rattle.honest_slaves.proofs.Exported.{read_there, found_standing, low_where, IsFor, ports_for_measuring, unit_for_measuring}
+use Rattle.honest_slaves.specs.Told.{AreInOrder}
 use Rattle.resting_clocks.specs.HeldTimes.{port_register}
-use Rattle.honest_replies.proofs.Exported.{IsFor, ports_for_measuring, unit_for_measuring}
 
 -- the datagram that reads the receive times of the ports, and that of the processing unit
 abbrev asked : ℕ → DatagramValue

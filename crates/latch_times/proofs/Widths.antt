@@ -11,7 +11,7 @@ use Rattle.frame_pass.specs.SlaveState.{width}
 use Rattle.master_script.specs.Frames.{width as bytes_by}
 use Rattle.master_script.specs.Slaves.{is_wide as is_wide_word}
 use Rattle.master_script.specs.Words.{Words, wide_at}
-use Rattle.honest_replies.specs.Told.{word_of, words_of}
+use Rattle.honest_slaves.specs.Told.{word_of, words_of}
 
 -- what a master is told of a slave's width
 wide_word : (k : ClockKind) (status : ℕ) → is_wide_word (word_of k status) ≡ is_wide k

@@ -13,10 +13,8 @@ use Rattle.frame_pass.specs.Reach.{reach_of}
 use Rattle.frame_pass.specs.SegmentState.{SegmentState, leaves_at, segment_step}
 use Rattle.frame_pass.proofs.Exported.{fixed_passed, never_latching, sizes_of, sound_at}
 use Rattle.master_script.specs.Frames.{latch_datagrams}
-use Rattle.honest_replies.proofs.Exported.{latch_for_measuring}
-use Rattle.honest_runs.specs.FileSlaves.{kind_at}
-use Rattle.honest_runs.proofs.Exported.{CameBack}
-use Rattle.named_slaves.proofs.Exported.{low_where}
+use Rattle.honest_slaves.proofs.Exported.{latch_for_measuring, CameBack, low_where}
+use Rattle.honest_slaves.specs.FileSlaves.{kind_at}
 use Rattle.resting_clocks.specs.Resting.{AllRest, Rests, row_there}
 use Rattle.resting_clocks.specs.HeldTimes.{AllHold, HoldsTimes}
 use Rattle.resting_clocks.specs.Far.{AreFar}

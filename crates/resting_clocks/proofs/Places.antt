@@ -19,9 +19,9 @@ use Rattle.segment_file.proofs.Exported.{legal_clocks, row_within}
 use Rattle.segment_start.specs.Start.{registers_of, slave_of, started_segment, timing_by, visits_of}
 use Rattle.segment_start.proofs.Exported.{as_many, stands_at, row_in_turn}
 use Rattle.frame_pass.specs.SlaveState.{Slave, Timing, Visits, fixed_part, width}
-use Rattle.named_slaves.proofs.Exported.{low_where}
+use Rattle.honest_slaves.proofs.Exported.{low_where}
 use Rattle.frame_pass.specs.ReceiveTimes.{AreInTurn}
-use Rattle.honest_runs.specs.FileSlaves.{kind_at}
+use Rattle.honest_slaves.specs.FileSlaves.{kind_at}
 use Rattle.resting_clocks.specs.Resting.{AllRest, Rests, row_there, shown_at}
 use Rattle.resting_clocks.specs.HeldTimes.{back_into}
 use Rattle.resting_clocks.specs.OfFile.{IsFixed}

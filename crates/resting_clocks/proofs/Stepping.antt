@@ -9,7 +9,7 @@ use Rattle.frame_pass.specs.Invariants.{IsSound}
 use Rattle.frame_pass.specs.Reach.{reach_of}
 use Rattle.frame_pass.specs.SegmentState.{SegmentState, leaves_at, segment_step}
 use Rattle.frame_pass.proofs.Exported.{step_reached, step_stays, is_not_sent}
-use Rattle.named_slaves.proofs.Exported.{had_before, low_where, same_many}
+use Rattle.honest_slaves.proofs.Exported.{had_before, low_where, same_many}
 
 some_same : {X : Type 0} {x y : X} → Some x ≡ Some y → x ≡ y
 some_same e = cc

@@ -1,8 +1,7 @@
 -- Replies in the run of a legal segment are honest.
 use Rattle.std.proofs.Common.{◌≡◌, Some, ap, ◌∙◌}
 use Rattle.std.specs.Prelude.{Err}
-use Rattle.honest_runs.proofs.Exported.{judged_told, told_measuring, told_clocks, commissioned_honest, settled_honest, armed_honest}
-use Rattle.honest_runs.proofs.Exported.{ran_honest}
+use Rattle.honest_slaves.proofs.Exported.{judged_told, told_measuring, told_clocks, commissioned_honest, settled_honest, armed_honest, ran_honest}
 use Rattle.lost_step.specs.LostStep.{measuring_positions, clock_positions}
 use Rattle.master_script.specs.Progress.{progress}
 use Rattle.master_script.specs.Slaves.{measuring, clocks}

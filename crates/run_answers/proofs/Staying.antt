@@ -6,7 +6,7 @@ use Rattle.cable_tree.specs.FrameOrder.{order}
 use Rattle.ecat_link.specs.Exchanges.{Exchange}
 use Rattle.ecat_link.proofs.Exported.{driven}
 use Rattle.frame_pass.specs.SegmentState.{segment_step}
-use Rattle.honest_runs.proofs.Exported.{delays_whole}
+use Rattle.honest_slaves.proofs.Exported.{delays_whole}
 use Rattle.master_script.specs.Config.{ConfigValue}
 use Rattle.master_script.specs.Kept.{kept_after}
 use Rattle.master_script.specs.Script.{Answer, Arm, Call, Run, Settle, script}

@@ -21,8 +21,7 @@ use Rattle.run_of_file.specs.RunOfFile.{RunEnd, armed, commissioned, frames_give
 use Rattle.run_of_file.proofs.Exported.{as_many_kinds}
 use Rattle.run_schedule.specs.Honest.{TellsKinds}
 use Rattle.script_tries.specs.Arming.{ArmsBy, StopsArming}
-use Rattle.run_schedule.proofs.Exported.{arm_stands, master_first, has_commissioned, armed_answers, commissioned_answers, is_settled}
-use Rattle.run_schedule.proofs.Exported.{ran_answers, settled_answers, armed_sends, commissioned_sends, ran_sends, settled_sends}
+use Rattle.run_schedule.proofs.Exported.{arm_stands, master_first, has_commissioned, armed_answers, commissioned_answers, is_settled, ran_answers, settled_answers, armed_sends, commissioned_sends, ran_sends, settled_sends}
 use Rattle.script_tries.specs.Commissioning.{StandsBy, Stops, steps_known}
 use Rattle.run_numbers.proofs.Exported.{ended, never_spent, refused_at_end, Followed, HasGone, followed, led_on, off, on, in_step}
 use Rattle.segment_file.specs.Legal.{IsLegal}

@@ -14,7 +14,7 @@ use Rattle.frame_pass.proofs.Exported.{finished_at, same_finished, same_step, pl
 use Rattle.master_script.specs.Progress.{progress}
 use Rattle.master_script.specs.Script.{Answer}
 use Rattle.master_script.specs.Words.{Words, delay_at, offset_at}
-use Rattle.named_slaves.proofs.Exported.{had_before, low_where}
+use Rattle.honest_slaves.proofs.Exported.{had_before, low_where}
 use Rattle.run_of_file.specs.MasterOfFile.{master_of}
 use Rattle.run_of_file.specs.RunOfFile.{RunEnd, armed, commissioned, end_of_run, ran, rounded_off, run_of, settled}
 use Rattle.run_of_file.proofs.Exported.{ran_on, IsFromStart, armed_from, commissioned_from, kept_by_runs, ran_from, settled_from}

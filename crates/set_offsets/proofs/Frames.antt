@@ -19,10 +19,10 @@ use Rattle.master_script.specs.Steps.{datagrams_of}
 use Rattle.master_script.specs.Words.{Words}
 use Rattle.master_script.specs.declared.step.Step.{Step}
 use Rattle.master_script.specs.declared.step.Step.TheVariants.{Count, Identify, Rate, Latch, Times, Set, Settle, Drift, Arm}
-use Rattle.named_slaves.specs.Mindful.{AreMindful}
-use Rattle.named_slaves.specs.Standing.{Stands, own_address}
-use Rattle.named_slaves.proofs.Exported.{Had, had_before, low_where, same_many, stands_at}
-use Rattle.honest_replies.specs.Told.{AreInOrder}
+use Rattle.honest_slaves.specs.Mindful.{AreMindful}
+use Rattle.honest_slaves.specs.Standing.{Stands, own_address}
+use Rattle.honest_slaves.proofs.Exported.{Had, had_before, low_where, same_many, stands_at}
+use Rattle.honest_slaves.specs.Told.{AreInOrder}
 use Rattle.resting_clocks.specs.Far.{AreFar}
 use Rattle.resting_clocks.proofs.Exported.{far_behind, far_left, each_after}
 use Rattle.set_offsets.proofs.Registers.{HoldsOn, on_same, passed_on}

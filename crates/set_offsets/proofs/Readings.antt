@@ -27,8 +27,8 @@ use Rattle.master_script.specs.Words.{Words, delay_at, delays_of, hung_of, hung_
 use Rattle.segment_file.specs.Legal.{IsLegal}
 use Rattle.segment_file.specs.Segment.{SegmentValue, clock_at, measures_at, row_at}
 use Rattle.segment_shape.specs.Slaves.{has_clock, measures}
-use Rattle.honest_runs.specs.FileSlaves.{kind_at, status_at}
-use Rattle.honest_runs.proofs.Exported.{judged_ok, row_has}
+use Rattle.honest_slaves.specs.FileSlaves.{kind_at, status_at}
+use Rattle.honest_slaves.proofs.Exported.{judged_ok, row_has}
 use Rattle.run_of_file.specs.MasterOfFile.{master_of}
 use Rattle.run_of_file.specs.RunOfFile.{RunEnd, commissioned}
 use Rattle.resting_clocks.specs.Resting.{row_there, shown_at}

@@ -28,11 +28,9 @@ use Rattle.master_script.specs.Words.{Words, delay_at, offset_at, wide_at}
 use Rattle.master_script.specs.declared.step.Step.{Step}
 use Rattle.master_script.specs.declared.step.Step.TheVariants.{Count, Identify, Rate, Latch as LatchStep, Times, Set}
 use Rattle.master_script.proofs.Exported.{progress_push}
-use Rattle.named_slaves.proofs.Exported.{had_before, low_where, same_many}
-use Rattle.honest_replies.specs.Told.{IsMeant}
-use Rattle.honest_replies.proofs.Exported.{mindful_step}
-use Rattle.honest_runs.specs.FileSlaves.{kind_at, status_at}
-use Rattle.honest_runs.proofs.Exported.{IsLate, row_has, came_back}
+use Rattle.honest_slaves.proofs.Exported.{had_before, low_where, same_many, mindful_step, IsLate, row_has, came_back}
+use Rattle.honest_slaves.specs.Told.{IsMeant}
+use Rattle.honest_slaves.specs.FileSlaves.{kind_at, status_at}
 use Rattle.run_of_file.specs.MasterOfFile.{master_of}
 use Rattle.run_of_file.specs.RunOfFile.{RunEnd, commissioned, turns}
 use Rattle.resting_clocks.specs.Far.{AreFar}

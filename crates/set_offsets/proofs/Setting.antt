@@ -9,7 +9,7 @@ use Rattle.esc_regs.specs.RegisterFile.{Registers}
 use Rattle.esc_regs.specs.declared.clock_kind.ClockKind.{ClockKind}
 use Rattle.segment_shape.specs.Slaves.{has_clock}
 use Rattle.frame_pass.specs.SlaveState.{Slave}
-use Rattle.named_slaves.proofs.Exported.{had_before, low_where}
+use Rattle.honest_slaves.proofs.Exported.{had_before, low_where, clock_word, flagged, words_many}
 use Rattle.master_script.specs.Config.{ConfigValue}
 use Rattle.master_script.specs.Judged.{judged}
 use Rattle.master_script.specs.Progress.{Commissioning, Progress, Settling, answered, asked_by, noted}
@@ -19,8 +19,7 @@ use Rattle.master_script.specs.Words.{Words, delay_at, offset_at}
 use Rattle.master_script.specs.declared.step.Refusal.{Refusal}
 use Rattle.master_script.specs.declared.step.Step.{Step}
 use Rattle.master_script.specs.declared.step.Step.TheVariants.{Latch as LatchStep, Set, Times}
-use Rattle.honest_replies.specs.Told.{words_of}
-use Rattle.honest_replies.proofs.Exported.{clock_word, flagged, words_many}
+use Rattle.honest_slaves.specs.Told.{words_of}
 use Rattle.latch_times.proofs.Exported.{IsOpen, reading_steps, turned_keeps}
 use Rattle.set_offsets.specs.HeldOffsets.{HoldsSet}
 use Rattle.set_offsets.proofs.Frames.{AreHeldOn}

@@ -19,7 +19,7 @@ use Rattle.master_script.specs.Progress.{progress}
 use Rattle.master_script.specs.Words.{Words, delay_at, offset_at}
 use Rattle.segment_file.specs.Legal.{IsLegal}
 use Rattle.segment_file.specs.Segment.{RowValue, SegmentValue, clock_at, oscillator, row_at}
-use Rattle.named_slaves.proofs.Exported.{low_where}
+use Rattle.honest_slaves.proofs.Exported.{low_where}
 use Rattle.run_of_file.specs.MasterOfFile.{master_of}
 use Rattle.run_of_file.specs.RunOfFile.{RunEnd, commissioned}
 use Rattle.resting_clocks.specs.Resting.{Rests, row_there, shown_at, time_at}

@@ -23,11 +23,10 @@ use Rattle.frame_pass.proofs.Exported.{fixed_passed, plain_datagram, plain_passe
 use Rattle.frame_pass.specs.Counters.{slave_before}
 use Rattle.frame_pass.specs.Stations.{IsAlone, slave_found}
 use Rattle.master_script.specs.Frames.{asks, set_datagrams, station as address_of, width as bytes_by}
-use Rattle.named_slaves.specs.Mindful.{AreMindful}
-use Rattle.named_slaves.specs.Standing.{Stands, own_address}
-use Rattle.named_slaves.proofs.Exported.{alone, found_standing, low_where}
-use Rattle.honest_replies.specs.Told.{AreInOrder}
-use Rattle.honest_replies.proofs.Exported.{IsFor, delay_for_clocks, offset_for_clocks}
+use Rattle.honest_slaves.specs.Mindful.{AreMindful}
+use Rattle.honest_slaves.specs.Standing.{Stands, own_address}
+use Rattle.honest_slaves.proofs.Exported.{alone, found_standing, low_where, IsFor, delay_for_clocks, offset_for_clocks}
+use Rattle.honest_slaves.specs.Told.{AreInOrder}
 use Rattle.set_offsets.proofs.Registers.{delay_plain, number_brought, offset_plain, word_brought, word_is}
 
 -- two datagrams stay two

@@ -1,4 +1,4 @@
-use Rattle.honest_runs.proofs.Exported.{came_back}
+use Rattle.honest_slaves.proofs.Exported.{came_back}
 use Rattle.std.proofs.Common.{subst, sym}
 use Rattle.resting_clocks.specs.Far.{AreFar}
 use Rattle.resting_clocks.proofs.Far.{latch_far}

@@ -1,5 +1,5 @@
 use Rattle.frame_pass.proofs.Exported.{timely_step}
-use Rattle.named_slaves.proofs.Exported.{same_many}
+use Rattle.honest_slaves.proofs.Exported.{same_many}
 use Rattle.segment_start.proofs.Exported.{as_many, starts_timely}
 use Rattle.std.proofs.Common.{◌∙◌}
 use Rattle.resting_clocks.proofs.Frames.{fixed_step}

@@ -1,2 +1,0 @@
-pub mod OwnSignals
-pub mod Planned

@@ -1,6 +1,0 @@
-mod ByKind
-mod Numbers
-mod Mindful
-mod Replies
-mod Identifying
-pub mod Exported

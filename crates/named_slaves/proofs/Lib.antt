@@ -1,5 +1,0 @@
-mod Parts
-mod Addresses
-mod Frames
-mod Answering
-pub mod Exported

@@ -1,5 +1,0 @@
-use Rattle.named_slaves.proofs.Answering.{all_answer}
-use Rattle.named_slaves.proofs.laws.broadcasts_count.Goals as goal
-
-pub returns : goal.returns
-returns c = all_answer

@@ -1,4 +1,0 @@
-pub mod Standing
-pub mod Mindful
-pub mod Broadcasts
-pub mod Addressed
