@@ -5,7 +5,7 @@ use Rattle.dc_bench.specs.BenchState.{BenchState}
 use Rattle.edge_report.specs.Delays.{AreDelays}
 use Rattle.honest_slaves.proofs.Exported.{delays_whole}
 use Rattle.master_script.specs.Kept.{Kept}
-use Rattle.run_answers.proofs.Exported.{whole_delays}
+use Rattle.run_counts.proofs.Exported.{whole_delays}
 use Rattle.run_of_file.specs.AtEnd.{IsAtEnd}
 use Rattle.run_of_file.specs.RunOfFile.{commissioned}
 use Rattle.segment_bench.specs.BenchRun.{HasRun}

@@ -15,13 +15,11 @@ use Rattle.master_script.specs.declared.step.MasterError.TheVariants.{Refused}
 use Rattle.master_script.specs.declared.step.Refusal.TheVariants.{Lost as LostStep}
 use Rattle.master_script.specs.declared.step.Step.{Step}
 use Rattle.master_script.proofs.Exported.{kept_counts}
-use Rattle.run_answers.proofs.Exported.{honest_replies, whole_answers, whole_follows}
-use Rattle.run_counts.proofs.Exported.{commissioning_few, delays_at_end, whole_few, whole_counted}
+use Rattle.run_counts.proofs.Exported.{honest_replies, whole_answers, whole_follows, commissioning_few, delays_at_end, whole_few, whole_counted, commissioned_answers}
 use Rattle.run_of_file.specs.AtEnd.{IsAtEnd}
 use Rattle.run_of_file.specs.MasterOfFile.{master_of}
 use Rattle.run_of_file.specs.RunOfFile.{RunEnd, armed, commissioned, followed_by, frames_given, ran, run_of, settled}
-use Rattle.run_schedule.specs.Answers.{answer_for}
-use Rattle.run_schedule.proofs.Exported.{commissioned_answers}
+use Rattle.run_counts.specs.Answers.{answer_for}
 use Rattle.segment_bench.specs.BenchRun.{HasRun}
 use Rattle.segment_file.specs.Legal.{IsLegal}
 use Rattle.segment_file.specs.Segment.{SegmentValue}

@@ -8,7 +8,7 @@ use Rattle.dc_bench.specs.BenchState.{BenchState}
 use Rattle.dc_show.specs.Shown.{IsShowError}
 use Rattle.dc_show.specs.declared.error.ShowError.{ShowError}
 use Rattle.lost_step.specs.LostStep.{lost_step_of}
-use Rattle.run_answers.proofs.Exported.{lossless}
+use Rattle.run_counts.proofs.Exported.{lossless}
 use Rattle.segment_draw.specs.Generated.{generated}
 use Rattle.segment_file.specs.Segment.{SegmentValue}
 use Rattle.segment_file.specs.Told.{IsTold}

@@ -13,7 +13,7 @@ use Rattle.master_script.proofs.Exported.{stays_kept}
 use Rattle.run_of_file.specs.MasterOfFile.{master_of}
 use Rattle.run_of_file.specs.RunOfFile.{RunEnd, armed, call_run, commissioned, followed_by, frames_given, master_after, next_call, ran, rounded_off, run_of, settled, turns}
 use Rattle.run_of_file.proofs.Exported.{some_rows}
-use Rattle.run_numbers.proofs.Exported.{some_kinds}
+use Rattle.run_counts.proofs.Exported.{some_kinds}
 use Rattle.segment_file.specs.Legal.{IsLegal}
 use Rattle.segment_file.specs.Segment.{SegmentValue, clock_at, tree_rows}
 use Rattle.segment_file.proofs.Exported.{order_many}

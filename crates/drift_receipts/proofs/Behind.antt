@@ -11,10 +11,9 @@ use Rattle.master_script.specs.Script.{Arm, Call, Run, Settle, script}
 use Rattle.master_script.specs.Scripted.{AreScripted, more, none}
 use Rattle.master_script.proofs.Exported.{progress_sent}
 use Rattle.run_counts.specs.Numbered.{AreNumbered}
-use Rattle.run_counts.proofs.Exported.{Drifted, commission_drifted, commission_none, ran_drifted}
+use Rattle.run_counts.proofs.Exported.{Drifted, commission_drifted, commission_none, ran_drifted, Followed, followed, off, on, few_sent, in_step, NumbersOn, step_numbers}
 use Rattle.run_of_file.specs.MasterOfFile.{master_of}
 use Rattle.run_of_file.specs.RunOfFile.{RunEnd, armed, commissioned, frames_given, ran, settled}
-use Rattle.run_numbers.proofs.Exported.{Followed, followed, off, on, few_sent, in_step, NumbersOn, step_numbers}
 use Rattle.segment_file.specs.Legal.{IsLegal}
 use Rattle.segment_file.specs.Segment.{SegmentValue}
 use Rattle.segment_shape.specs.declared.loss_row.Phase.{Phase}

@@ -20,7 +20,7 @@ use Rattle.esc_regs.specs.RegisterFile.{Registers}
 use Rattle.honest_slaves.specs.FileSlaves.{kind_at, status_at}
 use Rattle.local_clock.specs.Reading.{Happening, received}
 use Rattle.honest_slaves.proofs.Exported.{low_where}
-use Rattle.run_schedule.proofs.Exported.{one_drift_comes}
+use Rattle.run_counts.proofs.Exported.{one_drift_comes}
 use Rattle.segment_file.specs.Legal.{IsLegal}
 use Rattle.segment_file.specs.Segment.{SegmentValue}
 use Rattle.segment_shape.specs.Losses.{loss_at}

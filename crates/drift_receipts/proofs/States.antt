@@ -37,8 +37,8 @@ use Rattle.honest_slaves.specs.Mindful.{AreMindful}
 use Rattle.run_of_file.specs.MasterOfFile.{master_of}
 use Rattle.run_of_file.specs.RunOfFile.{frames_given}
 use Rattle.run_of_file.proofs.Exported.{commissioned_on, commissioned_from, kept_by_runs, as_many_kinds, few_rows}
-use Rattle.run_numbers.specs.OnTheWay.{StandsAfter}
-use Rattle.run_numbers.proofs.Exported.{master_frame_ns, some_kinds, stands_after}
+use Rattle.run_counts.specs.OnTheWay.{StandsAfter}
+use Rattle.run_counts.proofs.Exported.{master_frame_ns, some_kinds, stands_after}
 use Rattle.segment_file.specs.Legal.{IsLegal}
 use Rattle.segment_file.specs.Segment.{RowValue, SegmentValue, no_row, row_at, tree_rows}
 use Rattle.segment_file.proofs.Exported.{legal_reference}

@@ -22,11 +22,10 @@ use Rattle.master_script.specs.Words.{Words}
 use Rattle.master_script.specs.declared.step.Step.{Step}
 use Rattle.master_script.proofs.Exported.{wants}
 use Rattle.run_counts.specs.Numbered.{AreNumbered}
-use Rattle.run_counts.proofs.Exported.{Drifted, armed_drifted, ran_drifted, settled_drifted}
+use Rattle.run_counts.proofs.Exported.{Drifted, armed_drifted, ran_drifted, settled_drifted, some_kinds}
 use Rattle.run_of_file.specs.MasterOfFile.{master_of}
 use Rattle.run_of_file.specs.RunOfFile.{RunEnd, armed, commissioned, end_of_run, frames_given, ran, rounded_off, run_of, settled}
 use Rattle.run_of_file.proofs.Exported.{commissioned_on, ran_on}
-use Rattle.run_numbers.proofs.Exported.{some_kinds}
 use Rattle.segment_file.specs.Legal.{IsLegal}
 use Rattle.segment_file.specs.Segment.{SegmentValue}
 use Rattle.segment_shape.specs.declared.loss_row.Phase.TheVariants as phase

@@ -39,7 +39,7 @@ use Rattle.honest_slaves.specs.FileSlaves.{kind_at, status_at}
 use Rattle.run_of_file.specs.MasterOfFile.{master_of}
 use Rattle.run_of_file.specs.RunOfFile.{frames_given}
 use Rattle.run_of_file.proofs.Exported.{as_many_kinds, some_rows}
-use Rattle.run_numbers.proofs.Exported.{InStep, in_phase, master_frame_ns, some_kinds, starts_in_step, step_in_step}
+use Rattle.run_counts.proofs.Exported.{InStep, in_phase, master_frame_ns, some_kinds, starts_in_step, step_in_step}
 use Rattle.resting_clocks.specs.Resting.{AllRest, row_there, shown_at}
 use Rattle.resting_clocks.specs.HeldTimes.{AllHold, HoldsTimes}
 use Rattle.latch_times.specs.ToldTimes.{TellsTimes}

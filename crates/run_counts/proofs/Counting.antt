@@ -9,20 +9,26 @@ use Rattle.master_script.specs.Script.{Arm, Call, Run, Settle}
 use Rattle.master_script.specs.Slaves.{clocks as clocks_told}
 use Rattle.master_script.specs.declared.step.Step.TheVariants as step
 use Rattle.master_script.proofs.Exported.{progress_sent}
-use Rattle.run_answers.proofs.Exported.{honest_replies, whole_follows}
+use Rattle.run_counts.proofs.Premise.{honest_replies}
+use Rattle.run_counts.proofs.Whole.{whole_follows}
 use Rattle.run_counts.specs.Numbered.{AreNumbered}
 use Rattle.run_counts.specs.Phases.{Phases}
 use Rattle.run_counts.specs.Transmissions.{AreCounted, commissioning_sends, settling_sends}
-use Rattle.run_counts.proofs.Following.{commission_numbered, went_of}
+use Rattle.run_counts.proofs.Drifted.{commission_numbered, went_of}
 use Rattle.run_counts.proofs.Numbering.{lost_listed}
 use Rattle.run_of_file.specs.MasterOfFile.{master_of}
 use Rattle.run_of_file.specs.RunOfFile.{RunEnd, armed, commissioned, followed_by, frames_given, ran, run_of, settled}
-use Rattle.run_schedule.proofs.Exported.{arm_done, master_first, commission_came, is_settled, ran_sends, settled_sends}
-use Rattle.run_numbers.proofs.Exported.{Followed, HasGone, followed, led_on, off, on, in_step}
+use Rattle.run_counts.proofs.ArmingRun.{arm_done, master_first}
+use Rattle.run_counts.proofs.Commissioned.{commission_came}
+use Rattle.run_counts.proofs.Joined.{is_settled}
+use Rattle.run_counts.proofs.Shape.{ran_sends, settled_sends}
+use Rattle.run_counts.proofs.Led.{Followed, HasGone, followed, led_on, off, on}
+use Rattle.run_counts.proofs.Numbers.{in_step}
 use Rattle.segment_file.specs.Legal.{IsLegal}
 use Rattle.segment_file.specs.Segment.{SegmentValue, clocks}
 use Rattle.segment_shape.specs.declared.loss_row.Phase.TheVariants as phase
-use Rattle.step_counts.proofs.Exported.{numbers_used, clocks_counted, commissioning_counted}
+use Rattle.run_counts.proofs.StepNumbers.{numbers_used}
+use Rattle.run_counts.proofs.Positions.{clocks_counted, commissioning_counted}
 
 -- a call behind one that ended with Ok
 pub record Came (s : SegmentValue) (call : Call) (o : Option RunEnd) (run : RunEnd) : Type 0 where

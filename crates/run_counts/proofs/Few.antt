@@ -12,23 +12,29 @@ use Rattle.master_script.specs.declared.step.MasterError.TheVariants.{Refused, S
 use Rattle.master_script.specs.declared.step.Refusal.{Refusal}
 use Rattle.master_script.specs.declared.step.Step.TheVariants as step
 use Rattle.master_script.proofs.Exported.{progress_sent}
-use Rattle.run_answers.proofs.Exported.{honest_replies, whole_follows}
+use Rattle.run_counts.proofs.Premise.{honest_replies}
+use Rattle.run_counts.proofs.Whole.{whole_follows}
 use Rattle.run_counts.specs.Transmissions.{commissioning_sends, settling_sends}
 use Rattle.run_counts.proofs.Counting.{settling_frames}
-use Rattle.run_counts.proofs.Following.{went_of}
+use Rattle.run_counts.proofs.Drifted.{went_of}
 use Rattle.run_of_file.specs.MasterOfFile.{master_of}
 use Rattle.run_of_file.specs.RunOfFile.{RunEnd, armed, commissioned, frames_given, ran, run_of, settled}
 use Rattle.run_of_file.proofs.Exported.{as_many_kinds}
-use Rattle.run_schedule.specs.Honest.{TellsKinds}
-use Rattle.script_tries.specs.Arming.{ArmsBy, StopsArming}
-use Rattle.run_schedule.proofs.Exported.{arm_stands, master_first, has_commissioned, armed_answers, commissioned_answers, is_settled, ran_answers, settled_answers, armed_sends, commissioned_sends, ran_sends, settled_sends}
-use Rattle.script_tries.specs.Commissioning.{StandsBy, Stops, steps_known}
-use Rattle.run_numbers.proofs.Exported.{ended, never_spent, refused_at_end, Followed, HasGone, followed, led_on, off, on, in_step}
+use Rattle.run_counts.specs.Honest.{TellsKinds}
+use Rattle.run_counts.specs.Arming.{ArmsBy, StopsArming}
+use Rattle.run_counts.proofs.ArmingRun.{arm_stands, master_first}
+use Rattle.run_counts.proofs.Commissioned.{has_commissioned}
+use Rattle.run_counts.proofs.Joined.{armed_answers, commissioned_answers, is_settled, ran_answers, settled_answers}
+use Rattle.run_counts.proofs.Shape.{armed_sends, commissioned_sends, ran_sends, settled_sends}
+use Rattle.run_counts.specs.Commissioning.{StandsBy, Stops, steps_known}
+use Rattle.run_counts.proofs.Ends.{ended, never_spent, refused_at_end}
+use Rattle.run_counts.proofs.Led.{Followed, HasGone, followed, led_on, off, on}
+use Rattle.run_counts.proofs.Numbers.{in_step}
 use Rattle.segment_file.specs.Legal.{IsLegal}
 use Rattle.segment_file.specs.Segment.{SegmentValue, clocks}
 use Rattle.segment_file.proofs.Exported.{legal_frames}
 use Rattle.segment_shape.specs.declared.loss_row.Phase.TheVariants as phase
-use Rattle.step_counts.proofs.Exported.{clocks_counted, commissioning_counted, measuring_counted}
+use Rattle.run_counts.proofs.Positions.{clocks_counted, commissioning_counted, measuring_counted}
 
 module _ (s : SegmentValue) (legal : IsLegal s) where
   -- the steps that are known are at most those of the file

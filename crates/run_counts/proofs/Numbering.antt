@@ -15,14 +15,15 @@ use Rattle.master_script.proofs.Exported.{progress_sent, progress_push}
 use Rattle.run_counts.specs.Numbered.{AreNumbered}
 use Rattle.run_of_file.specs.MasterOfFile.{master_of}
 use Rattle.run_of_file.specs.RunOfFile.{frames_given}
-use Rattle.run_numbers.proofs.Exported.{InStep, few_sent, frame_phase, frames_of, some_kinds, step_in_step, NumbersOn, step_back, step_numbers}
+use Rattle.run_counts.proofs.Numbers.{InStep, few_sent, frame_phase, frames_of, some_kinds, step_in_step}
+use Rattle.run_counts.proofs.Stepping.{NumbersOn, step_back, step_numbers}
 use Rattle.segment_file.specs.Legal.{IsLegal}
 use Rattle.segment_file.specs.Segment.{SegmentValue}
 use Rattle.segment_shape.specs.Losses.{loss_at}
 use Rattle.segment_shape.specs.declared.loss_row.LossRow.{LossRow}
 use Rattle.segment_shape.specs.declared.loss_row.Phase.{Phase}
 use Rattle.segment_shape.specs.declared.loss_row.Phase.TheVariants.{Commission, Drift}
-use Rattle.step_counts.specs.Numbers.{lost_numbers}
+use Rattle.run_counts.specs.Numbers.{lost_numbers}
 
 some_same : {X : Type 0} {x y : X} → Some x ≡ Some y → x ≡ y
 some_same e = cc

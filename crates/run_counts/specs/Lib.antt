@@ -1,3 +1,12 @@
+pub mod OnTheWay
+pub mod Reached
+pub mod IfLost
+pub mod Commissioning
+pub mod Settling
+pub mod Arming
+pub mod Numbers
+pub mod Honest
+pub mod Answers
 pub mod Numbered
 pub mod Phases
 pub mod Transmissions

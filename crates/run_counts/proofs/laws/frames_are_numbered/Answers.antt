@@ -1,4 +1,4 @@
-use Rattle.run_counts.proofs.Following.{armed_drifted, commission_numbered, ran_drifted, settled_drifted}
+use Rattle.run_counts.proofs.Drifted.{armed_drifted, commission_numbered, ran_drifted, settled_drifted}
 use Rattle.run_counts.proofs.laws.frames_are_numbered.Goals as goal
 
 pub returns : goal.returns

@@ -1,5 +1,0 @@
-mod Premise
-mod Whole
-mod Staying
-mod Lossless
-pub mod Exported

@@ -1,7 +1,0 @@
-mod Stepping
-mod Numbers
-mod Walking
-mod Ends
-mod Following
-mod Lengths
-pub mod Exported

@@ -1,5 +1,0 @@
-use Rattle.run_numbers.proofs.Numbers.{stands_after}
-use Rattle.run_numbers.proofs.laws.segments_keep_step.Goals as goal
-
-pub returns : goal.returns
-returns c = λ s es t legal made runs. stands_after s legal es t made runs

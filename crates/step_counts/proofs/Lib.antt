@@ -1,4 +1,0 @@
-mod Places
-mod Positions
-mod Numbers
-pub mod Exported

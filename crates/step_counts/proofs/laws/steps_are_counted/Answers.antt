@@ -1,5 +1,0 @@
-use Rattle.step_counts.proofs.Positions.{arming_counted, commissioning_counted}
-use Rattle.step_counts.proofs.laws.steps_are_counted.Goals as goal
-
-pub returns : goal.returns
-returns c = record { commissioning = commissioning_counted; arming = arming_counted }
