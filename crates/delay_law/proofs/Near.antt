@@ -40,8 +40,8 @@ use Rattle.honest_slaves.specs.FileSlaves.{kind_at, status_at}
 use Rattle.run_of_file.specs.MasterOfFile.{kind_of, master_of}
 use Rattle.run_of_file.specs.RunOfFile.{RunEnd, commissioned, master_after}
 use Rattle.delay_law.specs.NearDelays.{AreNear}
-use Rattle.latch_times.specs.ToldTimes.{AreTold}
-use Rattle.latch_times.proofs.Exported.{at_end, late, sent_at, told}
+use Rattle.delay_law.specs.ToldTimes.{AreTold}
+use Rattle.delay_law.proofs.Ended.{at_end, late, sent_at, told}
 use Rattle.delay_law.proofs.Readings.{of_clock, place_low}
 
 some_same : {X : Type 0} {x y : X} → Some x ≡ Some y → x ≡ y

@@ -9,7 +9,7 @@ use Rattle.cable_tree.specs.PathSums.{arrive, port_time}
 use Rattle.cable_tree.specs.Positions.{position_of, renumbered}
 use Rattle.cable_tree.specs.Row.{Row}
 use Rattle.cable_tree.proofs.Exported.{port_time_of, children, lap_here, order_at, row_within}
-use Rattle.clock_latches.proofs.Exported.{of_clock as of_clock_at_rest}
+use Rattle.delay_law.proofs.Rest.{of_clock as of_clock_at_rest}
 use Rattle.dc_bounds.specs.TickFacts.{IsWithin}
 use Rattle.dc_delay.specs.declared.latch.Latch.{Latch}
 use Rattle.dc_delay.specs.Latched.{lap_of, laps, latched}
@@ -25,9 +25,10 @@ use Rattle.segment_file.specs.Segment.{RowValue, SegmentValue, measures_at, osci
 use Rattle.segment_file.proofs.Exported.{rows_many}
 use Rattle.segment_shape.specs.Slaves.{measures}
 use Rattle.honest_slaves.proofs.Exported.{row_has}
-use Rattle.resting_clocks.specs.Resting.{row_there, shown_at}
-use Rattle.latch_times.specs.ToldTimes.{AreTold, TellsTimes}
-use Rattle.resting_clocks.proofs.Exported.{keeps_there, Counts, counts_on}
+use Rattle.delay_law.specs.Resting.{row_there, shown_at}
+use Rattle.delay_law.specs.ToldTimes.{AreTold, TellsTimes}
+use Rattle.delay_law.proofs.Places.{keeps_there}
+use Rattle.delay_law.proofs.Resting.{Counts, counts_on}
 
 wide : (k : ClockKind) → 32 ≤ width k
 unfolding width

@@ -23,8 +23,8 @@ use Rattle.honest_slaves.specs.Mindful.{AreMindful}
 use Rattle.honest_slaves.specs.Standing.{Stands, own_address}
 use Rattle.honest_slaves.proofs.Exported.{Had, had_before, low_where, same_many, stands_at}
 use Rattle.honest_slaves.specs.Told.{AreInOrder}
-use Rattle.resting_clocks.specs.Far.{AreFar}
-use Rattle.resting_clocks.proofs.Exported.{far_behind, far_left, each_after}
+use Rattle.delay_law.specs.Far.{AreFar}
+use Rattle.delay_law.proofs.Exported.{far_behind, far_left, each_after}
 use Rattle.set_offsets.proofs.Registers.{HoldsOn, on_same, passed_on}
 use Rattle.set_offsets.proofs.Writing.{delay_set, offset_set}
 

@@ -31,8 +31,8 @@ use Rattle.honest_slaves.specs.FileSlaves.{kind_at, status_at}
 use Rattle.honest_slaves.proofs.Exported.{judged_ok, row_has}
 use Rattle.run_of_file.specs.MasterOfFile.{master_of}
 use Rattle.run_of_file.specs.RunOfFile.{RunEnd, commissioned}
-use Rattle.resting_clocks.specs.Resting.{row_there, shown_at}
-use Rattle.latch_times.proofs.Exported.{late, told, first_clock, wide_told}
+use Rattle.delay_law.specs.Resting.{row_there, shown_at}
+use Rattle.delay_law.proofs.Exported.{late, told, first_clock, wide_told}
 use Rattle.set_offsets.specs.SinceLatch.{latch_arrival}
 
 -- a clock measures

@@ -18,7 +18,7 @@ use Rattle.frame_pass.specs.SlaveState.{Slave, holds, width}
 use Rattle.frame_pass.proofs.Exported.{fixed_passed, left_passed}
 use Rattle.master_script.specs.Frames.{width as bytes_by}
 use Rattle.segment_start.specs.Start.{registers_of}
-use Rattle.latch_times.proofs.Exported.{number_split}
+use Rattle.delay_law.proofs.Exported.{number_split}
 use Rattle.set_offsets.specs.HeldOffsets.{HoldsSet}
 
 -- a slave sets neither itself

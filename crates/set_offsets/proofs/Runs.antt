@@ -33,8 +33,8 @@ use Rattle.honest_slaves.specs.Told.{IsMeant}
 use Rattle.honest_slaves.specs.FileSlaves.{kind_at, status_at}
 use Rattle.run_of_file.specs.MasterOfFile.{master_of}
 use Rattle.run_of_file.specs.RunOfFile.{RunEnd, commissioned, turns}
-use Rattle.resting_clocks.specs.Far.{AreFar}
-use Rattle.latch_times.proofs.Exported.{at_end, late as late_at_end, latched, IsFirst, IsJudged, IsLatched, IsMeasuring, IsOpen, IsUnjudged, first_asked, rate_asked, reading_steps, wide_told, IsAsked, IsOnWay, after_is, asks, first_clock, late_of, phase, sends_step, starts, unrefused, walk}
+use Rattle.delay_law.specs.Far.{AreFar}
+use Rattle.delay_law.proofs.Exported.{at_end, late as late_at_end, latched, IsFirst, IsJudged, IsLatched, IsMeasuring, IsOpen, IsUnjudged, first_asked, rate_asked, reading_steps, wide_told, IsAsked, IsOnWay, after_is, asks, first_clock, late_of, phase, sends_step, starts, unrefused, walk}
 use Rattle.set_offsets.specs.HeldOffsets.{AreSet, HoldsSet}
 use Rattle.set_offsets.proofs.Delays.{delay_few}
 use Rattle.set_offsets.proofs.Frames.{AreHeldOn, IsBefore, before_held, far_before, others_held, own_delay, own_offset}

@@ -20,7 +20,7 @@ use Rattle.master_script.specs.declared.step.Refusal.{Refusal}
 use Rattle.master_script.specs.declared.step.Step.{Step}
 use Rattle.master_script.specs.declared.step.Step.TheVariants.{Latch as LatchStep, Set, Times}
 use Rattle.honest_slaves.specs.Told.{words_of}
-use Rattle.latch_times.proofs.Exported.{IsOpen, reading_steps, turned_keeps}
+use Rattle.delay_law.proofs.Exported.{IsOpen, reading_steps, turned_keeps}
 use Rattle.set_offsets.specs.HeldOffsets.{HoldsSet}
 use Rattle.set_offsets.proofs.Frames.{AreHeldOn}
 use Rattle.set_offsets.proofs.Registers.{HoldsOn, set_on}

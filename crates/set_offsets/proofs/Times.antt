@@ -22,10 +22,9 @@ use Rattle.segment_file.specs.Segment.{RowValue, SegmentValue, clock_at, oscilla
 use Rattle.honest_slaves.proofs.Exported.{low_where}
 use Rattle.run_of_file.specs.MasterOfFile.{master_of}
 use Rattle.run_of_file.specs.RunOfFile.{RunEnd, commissioned}
-use Rattle.resting_clocks.specs.Resting.{Rests, row_there, shown_at, time_at}
-use Rattle.resting_clocks.specs.OfFile.{IsFixed}
-use Rattle.resting_clocks.proofs.Exported.{keeps_there, kind_there, measures_there, counts_on}
-use Rattle.latch_times.proofs.Exported.{way_of, IsOnWay}
+use Rattle.delay_law.specs.Resting.{Rests, row_there, shown_at, time_at}
+use Rattle.delay_law.specs.OfFile.{IsFixed}
+use Rattle.delay_law.proofs.Exported.{keeps_there, kind_there, measures_there, counts_on, way_of, IsOnWay}
 use Rattle.set_offsets.specs.HeldOffsets.{HoldsSet}
 use Rattle.set_offsets.specs.SinceLatch.{counted_ns, latch_arrival}
 use Rattle.set_offsets.proofs.Delays.{delay_few}

@@ -5,10 +5,10 @@ use Rattle.osc_clock.specs.Ticks.{ticks}
 use Rattle.frame_pass.specs.SlaveState.{Slave, Timing}
 use Rattle.segment_file.specs.Segment.{SegmentValue, clock_at, oscillator, row_at, tree_rows}
 use Rattle.master_script.specs.Words.{Words}
-use Rattle.resting_clocks.specs.Resting.{row_there}
+use Rattle.delay_law.specs.Resting.{row_there}
 use Rattle.run_of_file.specs.Commissioned.{words_after}
 use Rattle.run_of_file.specs.RunOfFile.{RunEnd}
-use Rattle.latch_times.specs.ToldTimes.{latch_sent}
+use Rattle.delay_law.specs.ToldTimes.{latch_sent}
 
 -- when that Latch arrived at the slave at a position, in fs
 abbrev pub latch_arrival : SegmentValue → Words → ℕ → ℕ

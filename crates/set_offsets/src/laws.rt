@@ -13,7 +13,7 @@ ghost use Rattle.segment_start.specs.Start.{started_segment};
 ghost use Rattle.run_of_file.specs.Commissioned.{IsCommissioned, words_after};
 ghost use Rattle.run_of_file.specs.MasterOfFile.{master_of};
 ghost use Rattle.run_of_file.specs.RunOfFile.{RunEnd, armed, ran, run_of, settled};
-ghost use Rattle.resting_clocks.specs.Resting.{row_there, shown_at};
+ghost use Rattle.delay_law.specs.Resting.{row_there, shown_at};
 ghost use Rattle.set_offsets.specs.HeldOffsets.{AreSet, HoldsSet};
 ghost use Rattle.set_offsets.specs.SinceLatch.{IsSinceLatch, counted_ns, latch_arrival};
 

@@ -1,2 +1,0 @@
-mod Rest
-pub mod Exported

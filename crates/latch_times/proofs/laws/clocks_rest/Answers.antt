@@ -1,5 +1,0 @@
-use Rattle.latch_times.proofs.Ended.{way_of}
-use Rattle.latch_times.proofs.laws.clocks_rest.Goals as goal
-
-pub returns : goal.returns
-returns c = λ s run legal is. (way_of s legal run is).rests

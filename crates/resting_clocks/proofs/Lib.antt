@@ -1,8 +1,0 @@
-mod Resting
-mod Far
-mod Passing
-mod LatchFrames
-mod Stepping
-mod Places
-mod Frames
-pub mod Exported

@@ -1,9 +1,0 @@
-use Rattle.resting_clocks.proofs.Frames.{rests_step}
-use Rattle.resting_clocks.proofs.Places.{rests_first}
-use Rattle.resting_clocks.proofs.laws.clocks_stay_at_rest.Goals as goal
-
-pub returns-clause-start : goal.returns-clause-start
-returns-clause-start c = rests_first
-
-pub returns-clause-step : goal.returns-clause-step
-returns-clause-step c = λ s t wait_ns f legal stands far rests. rests_step s legal t stands.many stands.sound stands.fixed wait_ns f far rests

@@ -1,4 +1,0 @@
-pub mod Resting
-pub mod HeldTimes
-pub mod OfFile
-pub mod Far
