@@ -1,0 +1,10 @@
+-- What the crates above may cite of these proofs.
+
+-- Which places the frames of a script leave.
+pub use Rattle.copy_law.proofs.Untouching.{offset_untouched, delay_untouched}
+-- Datagrams for which no slave writes a place stay so on their way, and each slave leaves it.
+pub use Rattle.copy_law.proofs.Unwritten.{datagrams_none, left_none}
+-- A frame that does not write a place leaves of the slaves what only such a write changes.
+pub use Rattle.copy_law.proofs.Slaves.{plain_held}
+-- Behind commissioning the slaves hold what they held.
+pub use Rattle.copy_law.proofs.Held.{settled_holds, armed_holds, ran_holds}

@@ -1,0 +1,21 @@
+mod Untouching
+mod Unwritten
+mod Corrections
+mod Slaves
+mod Held
+pub mod OnTheWay
+pub mod AtSlaves
+pub mod Behind
+pub mod States
+pub mod First
+pub mod Bringing
+pub mod Registers
+pub mod Writing
+pub mod Frames
+pub mod Setting
+pub mod Delays
+pub mod Runs
+pub mod BehindLatch
+pub mod Readings
+pub mod Times
+pub mod Exported

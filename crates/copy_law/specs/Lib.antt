@@ -1,0 +1,4 @@
+pub mod Untouched
+pub mod Receipts
+pub mod HeldOffsets
+pub mod SinceLatch

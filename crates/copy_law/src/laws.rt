@@ -1,0 +1,120 @@
+//! Laws over the definitions alone, for proofs of the layers above. They speak of any legal segment.
+
+ghost use Rattle.std.specs.Prelude.{◌≡◌, ℕ, Some, ◌≢◌, ◌+◌, ◌<◌, ◌≤◌, [], ◌∷◌, true, length, slice_get, if◌then◌else◌, ◌%◌, ◌^◌};
+ghost use Rattle.copy_law.specs.Untouched.{AreLasting, CorrectAlike, HoldAlike, IsUntouched, WriteNone};
+ghost use Rattle.frame_pass.specs.SegmentState.{phase_of, SegmentState, leaves_at};
+ghost use Rattle.master_script.specs.Config.{ConfigValue};
+ghost use Rattle.master_script.specs.Steps.{datagrams_of};
+ghost use Rattle.master_script.specs.Words.{Words, delay_at, offset_at};
+ghost use Rattle.master_script.specs.declared.step.Step.{Step};
+ghost use Rattle.run_of_file.specs.RunOfFile.{RunEnd, armed, commissioned, ran, run_of, settled};
+ghost use Rattle.segment_file.specs.Legal.{IsLegal};
+ghost use Rattle.segment_file.specs.Segment.{SegmentValue, clock_at, row_at};
+ghost use Rattle.segment_shape.specs.declared.loss_row.Phase.TheVariants as phase;
+ghost use Rattle.frame_pass.specs.ReceiveTimes.{IsReceiveTime};
+ghost use Rattle.copy_law.specs.Receipts.{IsDriftFrame, IsReference, brought, receipt, receives, sent_at};
+ghost use Rattle.ecat_link.specs.Exchanges.{Exchange};
+ghost use Rattle.frame_pass.specs.SlaveState.{Slave, Timing, offset as held_offset, width};
+ghost use Rattle.honest_slaves.specs.FileSlaves.{kind_at};
+ghost use Rattle.segment_shape.specs.Slaves.{has_clock};
+ghost use Rattle.frame_pass.specs.Advancing.{measuring_at};
+ghost use Rattle.frame_pass.specs.LiveRegisters.{system_time};
+ghost use Rattle.frame_pass.specs.Copies.{copy_at};
+ghost use Rattle.master_script.specs.Offset.{offset};
+ghost use Rattle.segment_start.specs.Start.{started_segment};
+ghost use Rattle.run_of_file.specs.Commissioned.{IsCommissioned, words_after};
+ghost use Rattle.run_of_file.specs.MasterOfFile.{master_of};
+ghost use Rattle.delay_law.specs.Resting.{row_there, shown_at};
+ghost use Rattle.copy_law.specs.HeldOffsets.{AreSet, HoldsSet};
+ghost use Rattle.copy_law.specs.SinceLatch.{IsSinceLatch, counted_ns, latch_arrival};
+
+/// A drift frame of the script writes the system time, and the activation, the start time and the cycle times of a SYNC unit, and
+/// nothing else.
+pub fn drift_frames_write_little()
+    ensures frames { (cfg : ConfigValue) (w : Words) (step : Step) (at n : ℕ) → phase_of (datagrams_of cfg w step) ≡ phase.Drift
+        → IsUntouched at n → WriteNone at n (datagrams_of cfg w step) }
+    ensures offset { IsUntouched 0x0920 8 }
+    ensures delay { IsUntouched 0x0928 4 }
+    ensures speed { IsUntouched 0x0930 2 }
+    ensures receive_times { (at n : ℕ) → IsReceiveTime at n → IsUntouched at n }
+{}
+
+/// Behind commissioning, to the end of each later phase and of the whole run, each slave of a legal segment holds what it then held in its
+/// receive times, and in the registers that no drift frame writes and that it does not set itself, as the offset, the delay and the speed.
+pub fn registers_stay()
+    ensures settled { (s : SegmentValue) (first run : RunEnd) (at n : ℕ) → IsLegal s → commissioned s ≡ Some first → settled s ≡ Some run
+        → AreLasting at n → HoldAlike at n first.state.slaves run.state.slaves }
+    ensures armed { (s : SegmentValue) (first run : RunEnd) (at n : ℕ) → IsLegal s → commissioned s ≡ Some first → armed s ≡ Some run
+        → AreLasting at n → HoldAlike at n first.state.slaves run.state.slaves }
+    ensures ran { (s : SegmentValue) (first run : RunEnd) (at n : ℕ) → IsLegal s → commissioned s ≡ Some first → ran s ≡ Some run
+        → AreLasting at n → HoldAlike at n first.state.slaves run.state.slaves }
+    ensures whole { (s : SegmentValue) (first run : RunEnd) (at n : ℕ) → IsLegal s → commissioned s ≡ Some first → run_of s ≡ Some run
+        → AreLasting at n → HoldAlike at n first.state.slaves run.state.slaves }
+    ensures offset { AreLasting 0x0920 8 }
+    ensures delay { AreLasting 0x0928 4 }
+    ensures speed { AreLasting 0x0930 2 }
+{}
+
+/// Behind commissioning, to the end of each later phase and of the whole run, the clock of each slave takes as many ticks to a correction
+/// (g, by the speed at 0x0930) as it then took.
+pub fn corrections_stay()
+    ensures settled { (s : SegmentValue) (first run : RunEnd) → IsLegal s → commissioned s ≡ Some first → settled s ≡ Some run
+        → CorrectAlike first.state.slaves run.state.slaves }
+    ensures armed { (s : SegmentValue) (first run : RunEnd) → IsLegal s → commissioned s ≡ Some first → armed s ≡ Some run
+        → CorrectAlike first.state.slaves run.state.slaves }
+    ensures ran { (s : SegmentValue) (first run : RunEnd) → IsLegal s → commissioned s ≡ Some first → ran s ≡ Some run
+        → CorrectAlike first.state.slaves run.state.slaves }
+    ensures whole { (s : SegmentValue) (first run : RunEnd) → IsLegal s → commissioned s ≡ Some first → run_of s ≡ Some run
+        → CorrectAlike first.state.slaves run.state.slaves }
+{}
+
+/// In the run of a file a clock other than the reference receives a difference from drift frame k exactly where that frame comes to it: the
+/// file does not list k among the drift frames, or lists it as lost behind the clock's position. It receives it at C + k frame periods and
+/// the frame's way to the clock, and it is the difference of two system times, of which the low halves count: the clock's then, and the
+/// reference's when the frame arrived there. No other slave receives anything. So of `loss_run` + 1 drift frames in a row each such clock
+/// receives from one, and behind the reference it stands in frame order.
+pub fn drift_frames_bring_times()
+    ensures sent { (s : SegmentValue) (k : ℕ) (t : SegmentState) (e : Exchange) → IsLegal s → (frame : IsDriftFrame s k t e)
+        → leaves_at t e.wait_ns ≡ sent_at s frame.first k }
+    ensures receipts { (s : SegmentValue) (k p r : ℕ) (t : SegmentState) (e : Exchange) (v reference : Slave) → IsLegal s
+        → (frame : IsDriftFrame s k t e) → IsReference s r
+        → slice_get t.slaves p ≡ Some v → slice_get t.slaves r ≡ Some reference
+        → brought t e p v ≡ (if receives s r k p then receipt (sent_at s frame.first k) v reference ∷ [] else []) }
+    ensures often { (s : SegmentValue) (first p r : ℕ) → IsLegal s → has_clock (kind_at s p) ≡ true → p ≢ r
+        → (k : ℕ) × (first ≤ k) × (k ≤ first + s.head.loss_run) × (receives s r k p ≡ true) }
+    ensures behind { (s : SegmentValue) (p r : ℕ) → IsLegal s → IsReference s r → p < length s.rows → has_clock (kind_at s p) ≡ true → p ≢ r → r < p }
+{}
+
+/// Where commissioning ends with Ok, each clock holds the offset and the measured delay that the master computes from the receive
+/// times that it was told, and every other slave holds 0 and 0, as all did at the start. So it stays behind each later phase, and
+/// to the end of the run, however that ends.
+pub fn offsets_are_set()
+    ensures start { (s : SegmentValue) (p : ℕ) (v : Slave) → IsLegal s → slice_get (started_segment s).slaves p ≡ Some v → HoldsSet 0 0 v.registers }
+    ensures commissioned { (s : SegmentValue) (run : RunEnd) → IsCommissioned s run → AreSet s (words_after s run) run.state.slaves }
+    ensures settled { (s : SegmentValue) (first run : RunEnd) → IsCommissioned s first → settled s ≡ Some run → AreSet s (words_after s first) run.state.slaves }
+    ensures armed { (s : SegmentValue) (first run : RunEnd) → IsCommissioned s first → armed s ≡ Some run → AreSet s (words_after s first) run.state.slaves }
+    ensures ran { (s : SegmentValue) (first run : RunEnd) → IsCommissioned s first → ran s ≡ Some run → AreSet s (words_after s first) run.state.slaves }
+    ensures whole { (s : SegmentValue) (first run : RunEnd) → IsCommissioned s first → run_of s ≡ Some run → AreSet s (words_after s first) run.state.slaves }
+{}
+
+/// The offset of a clock is the epoch and the measured delay, less what the clock showed when the Latch that came back arrived at
+/// it, as a word of the clock's width. The reference has the delay 0.
+pub fn offsets_come_of_readings()
+    ensures offset { (s : SegmentValue) (run : RunEnd) (p : ℕ) → IsCommissioned s run → p < length s.rows → clock_at s.rows (row_at s p) ≡ true
+        → offset_at (master_of s) (words_after s run) p
+        ≡ offset (width (row_there s p).kind) s.head.epoch_ns (delay_at (master_of s) (words_after s run) p)
+        (shown_at (row_there s p) (latch_arrival s (words_after s run) p)) }
+    ensures reference { (s : SegmentValue) (run : RunEnd) (r : ℕ) → IsCommissioned s run → (words_after s run).reference ≡ Some r → delay_at (master_of s) (words_after s run) r ≡ 0 }
+{}
+
+/// Behind commissioning, and as long as no frame brings a clock anything, its local copy is the epoch, its measured delay, and 10 ns
+/// for each of its ticks since the Latch that came back arrived at it. Its system time is the same without the delay. Both are words
+/// of the clock's width.
+pub fn system_times_begin_at_the_epoch()
+    ensures copy { (s : SegmentValue) (run : RunEnd) (p : ℕ) (v : Slave) (m : Timing) (t : ℕ) → IsCommissioned s run → IsSinceLatch s run p v m t
+        → copy_at (width (row_there s p).kind) m.clock [] (held_offset v.registers) t
+        ≡ (s.head.epoch_ns + delay_at (master_of s) (words_after s run) p + counted_ns s (words_after s run) p t) % 2 ^ width (row_there s p).kind }
+    ensures time { (s : SegmentValue) (run : RunEnd) (p : ℕ) (v : Slave) (m : Timing) (t : ℕ) → IsCommissioned s run → IsSinceLatch s run p v m t
+        → system_time (measuring_at t (record { registers = v.registers; timing = m }))
+        ≡ (s.head.epoch_ns + counted_ns s (words_after s run) p t) % 2 ^ width (row_there s p).kind }
+{}

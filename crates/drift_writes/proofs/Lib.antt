@@ -1,6 +1,0 @@
-mod Frames
-mod OnTheWay
-mod Corrections
-mod Slaves
-mod Runs
-pub mod Exported

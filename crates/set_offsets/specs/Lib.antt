@@ -1,2 +1,0 @@
-pub mod HeldOffsets
-pub mod SinceLatch
