@@ -20,7 +20,7 @@ use Rattle.honest_slaves.proofs.Exported.{time_for_clocks, low_where}
 use Rattle.local_clock.specs.Reading.{Happening, received}
 use Rattle.master_script.specs.Frames.{drift_datagram}
 use Rattle.honest_slaves.specs.Standing.{Stands, own_address}
-use Rattle.segment_shape.specs.Slaves.{has_clock}
+use Rattle.esc_regs.specs.Kinds.{has_clock}
 use Rattle.frame_pass.specs.Aside.{HaveSize}
 use Rattle.frame_pass.specs.Drift.{IsDrift, IsOther, first_behind}
 use Rattle.frame_pass.proofs.Exported.{behind_others, carried, events_first, frame_addressed, frame_receives, passes_refused, quiet_unwritten, same_refusal}

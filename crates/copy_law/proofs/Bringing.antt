@@ -23,9 +23,9 @@ use Rattle.honest_slaves.proofs.Exported.{low_where}
 use Rattle.run_counts.proofs.Exported.{one_drift_comes}
 use Rattle.segment_file.specs.Legal.{IsLegal}
 use Rattle.segment_file.specs.Segment.{SegmentValue}
-use Rattle.segment_shape.specs.Losses.{loss_at}
-use Rattle.segment_shape.specs.Slaves.{has_clock}
-use Rattle.segment_shape.specs.declared.loss_row.Phase.TheVariants.{Drift}
+use Rattle.loss_list.specs.Losses.{loss_at}
+use Rattle.esc_regs.specs.Kinds.{has_clock}
+use Rattle.loss_list.specs.declared.loss_row.Phase.TheVariants.{Drift}
 use Rattle.wrap_time.specs.WordDifference.{word_difference}
 
 -- what a frame brings, by whether it comes, to a clock, and to one other than the reference

@@ -13,7 +13,7 @@ use Rattle.honest_slaves.proofs.Exported.{row_has}
 use Rattle.segment_file.specs.Legal.{IsLegal}
 use Rattle.segment_file.specs.Segment.{SegmentValue, clock_at, row_at, tree_row, tree_rows}
 use Rattle.segment_file.proofs.Exported.{order_many, row_within}
-use Rattle.segment_shape.specs.Slaves.{has_clock}
+use Rattle.esc_regs.specs.Kinds.{has_clock}
 
 module _ (s : SegmentValue) (legal : IsLegal s) (r : ℕ) (reference : IsReference s r) where
   row_there : row_at s r ≡ reference.row

@@ -13,7 +13,7 @@ use Rattle.master_script.specs.Steps.{datagrams_of}
 use Rattle.master_script.specs.Words.{Words, reference_of}
 use Rattle.master_script.specs.declared.step.Step.{Step}
 use Rattle.master_script.specs.declared.step.Step.TheVariants.{Count, Identify, Rate, Latch, Times, Set, Settle, Drift, Arm}
-use Rattle.segment_shape.specs.declared.loss_row.Phase.TheVariants as phase
+use Rattle.loss_list.specs.declared.loss_row.Phase.TheVariants as phase
 use Rattle.frame_pass.specs.Aside.{HaveSize}
 use Rattle.frame_pass.specs.Drift.{first_behind}
 use Rattle.frame_pass.proofs.Exported.{same_size, size_advanced, size_after}

@@ -26,7 +26,7 @@ use Rattle.master_script.specs.Slaves.{SlaveWords, is_clock, is_measuring, judge
 use Rattle.master_script.specs.Words.{Words, delay_at, delays_of, hung_of, hung_or_none, offset_at, unit_of, wide_at}
 use Rattle.segment_file.specs.Legal.{IsLegal}
 use Rattle.segment_file.specs.Segment.{SegmentValue, clock_at, measures_at, row_at}
-use Rattle.segment_shape.specs.Slaves.{has_clock, measures}
+use Rattle.esc_regs.specs.Kinds.{has_clock, measures}
 use Rattle.honest_slaves.specs.FileSlaves.{kind_at, status_at}
 use Rattle.honest_slaves.proofs.Exported.{judged_ok, row_has}
 use Rattle.run_of_file.specs.MasterOfFile.{master_of}

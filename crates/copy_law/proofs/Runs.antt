@@ -12,7 +12,7 @@ use Rattle.ecat_link.proofs.Exported.{driven}
 use Rattle.esc_regs.specs.RegisterTable.{is_wide}
 use Rattle.segment_file.specs.Legal.{IsLegal}
 use Rattle.segment_file.specs.Segment.{SegmentValue, clock_at, row_at}
-use Rattle.segment_shape.specs.Slaves.{has_clock}
+use Rattle.esc_regs.specs.Kinds.{has_clock}
 use Rattle.segment_start.specs.Start.{slave_of, started_segment}
 use Rattle.segment_start.proofs.Exported.{as_many, stands_at}
 use Rattle.frame_pass.specs.Reach.{reach_of}

@@ -7,7 +7,7 @@ use Rattle.dc_bounds.specs.Weight.{flag}
 use Rattle.ecat_frame.specs.FrameGrammar.{FrameValue}
 use Rattle.esc_regs.specs.RegisterFile.{Registers}
 use Rattle.esc_regs.specs.declared.clock_kind.ClockKind.{ClockKind}
-use Rattle.segment_shape.specs.Slaves.{has_clock}
+use Rattle.esc_regs.specs.Kinds.{has_clock}
 use Rattle.frame_pass.specs.SlaveState.{Slave}
 use Rattle.honest_slaves.proofs.Exported.{had_before, low_where, clock_word, flagged, words_many}
 use Rattle.master_script.specs.Config.{ConfigValue}

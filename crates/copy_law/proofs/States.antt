@@ -42,11 +42,11 @@ use Rattle.run_counts.proofs.Exported.{master_frame_ns, some_kinds, stands_after
 use Rattle.segment_file.specs.Legal.{IsLegal}
 use Rattle.segment_file.specs.Segment.{RowValue, SegmentValue, no_row, row_at, tree_rows}
 use Rattle.segment_file.proofs.Exported.{legal_reference}
-use Rattle.segment_shape.specs.Losses.{loss_at}
-use Rattle.segment_shape.specs.Slaves.{has_clock}
-use Rattle.segment_shape.specs.declared.loss_row.LossRow.{LossRow}
-use Rattle.segment_shape.specs.declared.loss_row.Phase.{Phase}
-use Rattle.segment_shape.specs.declared.loss_row.Phase.TheVariants as phase
+use Rattle.loss_list.specs.Losses.{loss_at}
+use Rattle.esc_regs.specs.Kinds.{has_clock}
+use Rattle.loss_list.specs.declared.loss_row.LossRow.{LossRow}
+use Rattle.loss_list.specs.declared.loss_row.Phase.{Phase}
+use Rattle.loss_list.specs.declared.loss_row.Phase.TheVariants as phase
 use Rattle.segment_start.specs.Start.{slave_of, started_segment, timing_by}
 use Rattle.segment_start.proofs.Exported.{stands_at}
 

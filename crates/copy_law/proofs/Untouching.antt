@@ -10,7 +10,7 @@ use Rattle.master_script.specs.Steps.{datagrams_of}
 use Rattle.master_script.specs.Words.{Words, start_at, wide_at}
 use Rattle.master_script.specs.declared.step.Step.{Step}
 use Rattle.master_script.specs.declared.step.Step.TheVariants.{Count, Identify, Rate, Latch, Times, Set, Settle, Drift, Arm}
-use Rattle.segment_shape.specs.declared.loss_row.Phase.TheVariants as phase
+use Rattle.loss_list.specs.declared.loss_row.Phase.TheVariants as phase
 use Rattle.frame_pass.specs.ReceiveTimes.{IsReceiveTime}
 
 few_bytes : (wide : Bool) (x : ℕ) → length (little_bytes (width wide) x) ≤ 8

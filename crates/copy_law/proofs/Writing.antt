@@ -12,7 +12,7 @@ use Rattle.esc_regs.specs.RegisterWrite.{written}
 use Rattle.esc_regs.specs.declared.clock_kind.ClockKind.{ClockKind}
 use Rattle.esc_regs.specs.declared.clock_kind.ClockKind.TheVariants as kind
 use Rattle.esc_regs.proofs.Exported.{untouched}
-use Rattle.segment_shape.specs.Slaves.{has_clock}
+use Rattle.esc_regs.specs.Kinds.{has_clock}
 use Rattle.frame_pass.specs.DatagramAtSlave.{datagram_after, doing, slave_after}
 use Rattle.frame_pass.specs.DatagramTable.{writes}
 use Rattle.frame_pass.specs.FramePass.{at_arrival, datagrams_after, datagrams_behind, datagrams_passed, slave_behind, slave_passed}

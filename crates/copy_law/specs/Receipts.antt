@@ -15,9 +15,9 @@ use Rattle.honest_slaves.specs.FileSlaves.{kind_at}
 use Rattle.local_clock.specs.Reading.{Happening, received}
 use Rattle.run_of_file.specs.RunOfFile.{RunEnd, commissioned, ran}
 use Rattle.segment_file.specs.Segment.{SegmentValue, reference_row, tree_rows}
-use Rattle.segment_shape.specs.Losses.{loss_at}
-use Rattle.segment_shape.specs.Slaves.{has_clock}
-use Rattle.segment_shape.specs.declared.loss_row.Phase.TheVariants.{Drift}
+use Rattle.loss_list.specs.Losses.{loss_at}
+use Rattle.esc_regs.specs.Kinds.{has_clock}
+use Rattle.loss_list.specs.declared.loss_row.Phase.TheVariants.{Drift}
 use Rattle.wrap_time.specs.WordDifference.{word_difference}
 
 -- Drift frame k of the run of a file: behind commissioning it is the k-th frame that the run sends, and it finds the segment in this state.

@@ -7,7 +7,7 @@ use Rattle.ecat_link.specs.Serves.{End, Sends}
 use Rattle.ecat_link.proofs.Exported.{driven}
 use Rattle.segment_file.specs.Legal.{IsLegal}
 use Rattle.segment_file.specs.Segment.{SegmentValue, measures_at, row_at}
-use Rattle.segment_shape.specs.Slaves.{measures}
+use Rattle.esc_regs.specs.Kinds.{measures}
 use Rattle.segment_start.specs.Start.{started_segment}
 use Rattle.frame_pass.specs.SegmentState.{segment_step}
 use Rattle.master_script.specs.Begins.{Begins}

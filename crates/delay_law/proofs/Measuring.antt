@@ -9,7 +9,7 @@ use Rattle.dc_bounds.specs.Weight.{flag}
 use Rattle.dc_delay.specs.declared.latch.Latch.{Latch}
 use Rattle.ecat_frame.specs.FrameGrammar.{FrameValue}
 use Rattle.segment_file.specs.Segment.{SegmentValue}
-use Rattle.segment_shape.specs.Slaves.{measures}
+use Rattle.esc_regs.specs.Kinds.{measures}
 use Rattle.frame_pass.specs.SlaveState.{Slave}
 use Rattle.master_script.specs.Config.{ConfigValue}
 use Rattle.master_script.specs.Progress.{Commissioning, Settling, Progress, answered, asked_by, done, later_steps, noted, planned, turned}

@@ -26,7 +26,7 @@ use Rattle.segment_bounds.specs.Bounds.{delay_at, delay_bound_at}
 use Rattle.segment_file.specs.Legal.{IsLegal}
 use Rattle.segment_file.specs.Segment.{RowValue, SegmentValue, clock_at, is_clock as is_clock_row, is_measuring as is_measuring_row, measures_at, no_row, reference_row, row_at, row_of, tree_row, tree_rows}
 use Rattle.segment_file.proofs.Exported.{legal_measurable, legal_reference, legal_round_trip, order_many, row_within, rows_many}
-use Rattle.segment_shape.specs.Slaves.{has_clock, measures}
+use Rattle.esc_regs.specs.Kinds.{has_clock, measures}
 use Rattle.dc_topology.specs.Status.{status_of, statuses}
 use Rattle.master_script.specs.Kept.{has_delays, kept_after}
 use Rattle.master_script.specs.ListedTree.{tree_of}

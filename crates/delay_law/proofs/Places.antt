@@ -12,7 +12,7 @@ use Rattle.dc_bounds.specs.TickFacts.{IsWithin}
 use Rattle.esc_regs.specs.declared.clock_kind.ClockKind.{ClockKind}
 use Rattle.esc_regs.specs.declared.clock_kind.ClockKind.TheVariants as kind
 use Rattle.osc_clock.specs.Ticks.{IsRunning}
-use Rattle.segment_shape.specs.Slaves.{greatest_start, measures}
+use Rattle.esc_regs.specs.Kinds.{greatest_start, measures}
 use Rattle.segment_file.specs.Legal.{IsClock, IsLegal, KeepsTime}
 use Rattle.segment_file.specs.Segment.{RowValue, SegmentValue, no_row, oscillator, row_at, tree_rows}
 use Rattle.segment_file.proofs.Exported.{legal_clocks, row_within}

@@ -23,7 +23,7 @@ use Rattle.osc_clock.specs.Ticks.{IsRunning}
 use Rattle.segment_file.specs.Legal.{IsLegal}
 use Rattle.segment_file.specs.Segment.{RowValue, SegmentValue, measures_at, oscillator, row_at, tree_rows}
 use Rattle.segment_file.proofs.Exported.{rows_many}
-use Rattle.segment_shape.specs.Slaves.{measures}
+use Rattle.esc_regs.specs.Kinds.{measures}
 use Rattle.honest_slaves.proofs.Exported.{row_has}
 use Rattle.delay_law.specs.Resting.{row_there, shown_at}
 use Rattle.delay_law.specs.ToldTimes.{AreTold, TellsTimes}

@@ -15,7 +15,7 @@ use Rattle.ecat_link.specs.Serves.{Send, Sends}
 use Rattle.segment_file.specs.Legal.{IsLegal}
 use Rattle.segment_file.specs.Segment.{SegmentValue, tree_rows}
 use Rattle.segment_file.proofs.Exported.{legal_reference}
-use Rattle.segment_shape.specs.Slaves.{measures}
+use Rattle.esc_regs.specs.Kinds.{measures}
 use Rattle.segment_start.specs.Start.{started_segment}
 use Rattle.segment_start.proofs.Exported.{as_many, starts_timely}
 use Rattle.frame_pass.specs.FramePass.{datagrams_behind}

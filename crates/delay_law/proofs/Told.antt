@@ -14,7 +14,7 @@ use Rattle.esc_regs.specs.declared.clock_kind.ClockKind.{ClockKind}
 use Rattle.frame_pass.specs.SlaveState.{Slave, holds}
 use Rattle.frame_pass.specs.DatagramAtSlave.{slave_after}
 use Rattle.frame_pass.specs.FramePass.{at_arrival, datagrams_behind}
-use Rattle.segment_shape.specs.Slaves.{measures}
+use Rattle.esc_regs.specs.Kinds.{measures}
 use Rattle.frame_pass.specs.Counters.{slave_before}
 use Rattle.frame_pass.specs.Stations.{BringsBack, slave_found}
 use Rattle.frame_pass.specs.Aside.{never_writes}

@@ -1,3 +1,4 @@
+pub mod Kinds
 pub mod RegisterTable
 pub mod RegisterBytes
 pub mod RegisterAccess

@@ -25,7 +25,7 @@ mod rules;
 mod table;
 
 pub use answers::{Access, Written};
-pub use clock_kind::ClockKind;
+pub use clock_kind::{ClockKind, greatest_start, has_clock, measures};
 pub use laws::{
     load_after_store, narrow_numbers, numbers_fit, rates_told, registers_start, stay_whole,
     store_leaves_length, store_leaves_others, write_leaves_kind, write_leaves_others, write_stores,

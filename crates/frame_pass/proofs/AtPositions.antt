@@ -5,9 +5,9 @@ use Rattle.std.specs.List.{AllByRecursion}
 use Rattle.std.proofs.lemmas.Bool.Decides.{nat_tests}
 use Rattle.std.proofs.lemmas.Option.{slice_get-map}
 use Rattle.ecat_frame.specs.FrameGrammar.{DatagramValue, FrameValue}
-use Rattle.segment_shape.specs.Losses.{loss_at}
-use Rattle.segment_shape.specs.declared.loss_row.Phase.{Phase}
-use Rattle.segment_shape.specs.declared.loss_row.Phase.TheVariants.{Commission, Drift}
+use Rattle.loss_list.specs.Losses.{loss_at}
+use Rattle.loss_list.specs.declared.loss_row.Phase.{Phase}
+use Rattle.loss_list.specs.declared.loss_row.Phase.TheVariants.{Commission, Drift}
 use Rattle.frame_pass.specs.SlaveState.{Timing, Slave}
 use Rattle.frame_pass.specs.Advancing.{advanced_to}
 use Rattle.frame_pass.specs.FramePass.{slave_behind, slave_passed, slaves_passed, datagrams_behind, are_latching, at_arrival, end_of}

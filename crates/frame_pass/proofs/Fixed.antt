@@ -12,9 +12,9 @@ use Rattle.sync_units.specs.declared.edge.Signal.{Signal}
 use Rattle.sync_units.specs.declared.edge.Signal.TheVariants.{Sync0, Sync1}
 use Rattle.sync_units.specs.Interval.{edges_to}
 use Rattle.sync_units.specs.KeptEdges.{Kept, put, put_all, with_edge, edges_with}
-use Rattle.segment_shape.specs.Losses.{loss_at}
-use Rattle.segment_shape.specs.declared.loss_row.Phase.{Phase}
-use Rattle.segment_shape.specs.declared.loss_row.Phase.TheVariants.{Commission, Drift}
+use Rattle.loss_list.specs.Losses.{loss_at}
+use Rattle.loss_list.specs.declared.loss_row.Phase.{Phase}
+use Rattle.loss_list.specs.declared.loss_row.Phase.TheVariants.{Commission, Drift}
 use Rattle.latch_unit.specs.Stamp.{stamp_by}
 use Rattle.frame_pass.specs.SlaveState.{Timing, Measuring, Slave, FixedPart, fixed_part, width_of, offset, on_measuring, on_measuring_of}
 use Rattle.frame_pass.specs.Advancing.{advanced_to, measuring_at, ticked_to}

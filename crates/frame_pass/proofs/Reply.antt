@@ -8,9 +8,9 @@ use Rattle.ecat_frame.specs.Difference.{wiped, wiped_datagram, first_apart, firs
 use Rattle.esc_regs.specs.RegisterAccess.{is_refused}
 use Rattle.esc_regs.specs.ShownRegisters.{shown}
 use Rattle.esc_regs.proofs.Exported.{range_length, not_past}
-use Rattle.segment_shape.specs.Losses.{loss_at}
-use Rattle.segment_shape.specs.declared.loss_row.Phase.{Phase}
-use Rattle.segment_shape.specs.declared.loss_row.Phase.TheVariants.{Commission, Drift}
+use Rattle.loss_list.specs.Losses.{loss_at}
+use Rattle.loss_list.specs.declared.loss_row.Phase.{Phase}
+use Rattle.loss_list.specs.declared.loss_row.Phase.TheVariants.{Commission, Drift}
 use Rattle.frame_pass.specs.SlaveState.{Slave}
 use Rattle.frame_pass.specs.LiveRegisters.{live, read_of}
 use Rattle.frame_pass.specs.DatagramTable.{Doing, reads, merges}

@@ -4,11 +4,11 @@ use Rattle.std.specs.Prelude.{IsSome}
 use Rattle.std.specs.List.{AllByRecursion}
 use Rattle.dc_base.specs.Causes.{raised}
 use Rattle.ecat_link.specs.Exchanges.{Exchange, Runs}
-use Rattle.segment_shape.specs.declared.loss_row.Phase.{Phase}
-use Rattle.segment_shape.specs.declared.loss_row.Phase.TheVariants.{Commission, Drift}
+use Rattle.loss_list.specs.declared.loss_row.Phase.{Phase}
+use Rattle.loss_list.specs.declared.loss_row.Phase.TheVariants.{Commission, Drift}
 use Rattle.std.proofs.lemmas.Bool.Decides.{nat_tests}
 use Rattle.ecat_frame.specs.FrameGrammar.{FrameValue}
-use Rattle.segment_shape.specs.Losses.{loss_at}
+use Rattle.loss_list.specs.Losses.{loss_at}
 use Rattle.frame_pass.specs.SegmentState.{SegmentState, segment_step, leaves_at, carried, numbered, leaving, number_of, phase_of}
 use Rattle.frame_pass.specs.Invariants.{after_frames, IsOnTime, IsNumbered, IsUnsent}
 use Rattle.frame_pass.proofs.Sound.{IsLeft, left_by}

@@ -1,7 +1,7 @@
 -- How many slaves the next frame reaches.
 use Rattle.std.specs.Prelude.{ℕ, ◌+◌, List, length, Option, Some, None}
 use Rattle.ecat_frame.specs.FrameGrammar.{FrameValue}
-use Rattle.segment_shape.specs.Losses.{loss_at}
+use Rattle.loss_list.specs.Losses.{loss_at}
 use Rattle.frame_pass.specs.SlaveState.{Slave}
 use Rattle.frame_pass.specs.SegmentState.{SegmentState, phase_of, number_of}
 

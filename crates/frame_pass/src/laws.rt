@@ -12,7 +12,7 @@ ghost use Rattle.ecat_frame.specs.Difference.{first_difference};
 ghost use Rattle.ecat_frame.specs.FrameGrammar.{DatagramValue, FrameValue};
 ghost use Rattle.ecat_link.specs.Exchanges.{Exchange, Runs};
 ghost use Rattle.esc_regs.specs.RegisterWrite.{written};
-ghost use Rattle.segment_shape.specs.Losses.{loss_at};
+ghost use Rattle.loss_list.specs.Losses.{loss_at};
 ghost use Rattle.frame_pass.specs.SlaveState.{Slave, Timing, width, holds, fixed_part, station};
 ghost use Rattle.frame_pass.specs.DatagramTable.{writes, Passes, Reads, Writes, reads, merges, gain, raises_adp, raised_by};
 ghost use Rattle.frame_pass.specs.DatagramAtSlave.{doing, slave_after, is_refused_by, datagram_after};

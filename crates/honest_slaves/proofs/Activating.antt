@@ -8,7 +8,7 @@ use Rattle.esc_regs.specs.RegisterAccess.{is_refused, covers}
 use Rattle.esc_regs.specs.RegisterWrite.{told}
 use Rattle.esc_regs.specs.declared.clock_kind.ClockKind.{ClockKind}
 use Rattle.esc_regs.specs.declared.clock_kind.ClockKind.TheVariants as kind
-use Rattle.segment_shape.specs.Slaves.{has_clock}
+use Rattle.esc_regs.specs.Kinds.{has_clock}
 use Rattle.sync_units.specs.declared.edge.Signal.{Signal}
 use Rattle.sync_units.specs.declared.edge.Signal.TheVariants.{Sync0, Sync1}
 use Rattle.frame_pass.specs.SlaveState.{Slave, station}

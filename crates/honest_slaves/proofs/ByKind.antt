@@ -4,7 +4,7 @@ use Rattle.std.specs.Prelude.{not}
 use Rattle.esc_regs.specs.RegisterAccess.{is_refused}
 use Rattle.esc_regs.specs.declared.clock_kind.ClockKind.{ClockKind}
 use Rattle.esc_regs.specs.declared.clock_kind.ClockKind.TheVariants as kind
-use Rattle.segment_shape.specs.Slaves.{measures, has_clock}
+use Rattle.esc_regs.specs.Kinds.{measures, has_clock}
 use Rattle.master_script.specs.Frames.{width}
 use Rattle.master_script.specs.Slaves.{is_measuring, is_clock}
 use Rattle.honest_slaves.specs.Told.{word_of}

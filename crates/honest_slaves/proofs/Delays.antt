@@ -24,7 +24,7 @@ use Rattle.master_script.proofs.Exported.{commission_done, hung_length}
 use Rattle.segment_file.specs.Legal.{IsLegal}
 use Rattle.segment_file.specs.Segment.{SegmentValue, tree_rows, clock_at, row_at}
 use Rattle.segment_file.proofs.Exported.{legal_reference, order_many}
-use Rattle.segment_shape.specs.Slaves.{has_clock}
+use Rattle.esc_regs.specs.Kinds.{has_clock}
 use Rattle.segment_start.specs.Start.{started_segment}
 use Rattle.honest_slaves.specs.Told.{words_of}
 use Rattle.honest_slaves.proofs.ByKind.{clock_word}

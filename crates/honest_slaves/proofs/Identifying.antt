@@ -11,7 +11,7 @@ use Rattle.esc_regs.specs.declared.clock_kind.ClockKind.{ClockKind}
 use Rattle.esc_regs.specs.declared.clock_kind.ClockKind.TheVariants as kind
 use Rattle.frame_pass.specs.SlaveState.{Slave, holds}
 use Rattle.frame_pass.specs.FramePass.{datagrams_behind}
-use Rattle.segment_shape.specs.Slaves.{has_clock}
+use Rattle.esc_regs.specs.Kinds.{has_clock}
 use Rattle.frame_pass.specs.Aside.{never_writes}
 use Rattle.frame_pass.specs.Stations.{slave_found}
 use Rattle.frame_pass.proofs.Exported.{found}

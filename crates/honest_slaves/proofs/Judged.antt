@@ -22,7 +22,7 @@ use Rattle.master_script.proofs.Exported.{tree_listed, tree_refused}
 use Rattle.segment_file.specs.Legal.{IsLegal}
 use Rattle.segment_file.specs.Segment.{RowValue, SegmentValue, tree_rows, clock_at, measures_at, no_row}
 use Rattle.segment_file.proofs.Exported.{order_many, rows_many, legal_reference, legal_measurable}
-use Rattle.segment_shape.specs.Slaves.{measures, has_clock}
+use Rattle.esc_regs.specs.Kinds.{measures, has_clock}
 use Rattle.dc_topology.specs.Status.{status_of, statuses}
 use Rattle.honest_slaves.specs.Told.{word_of, words_of}
 use Rattle.honest_slaves.proofs.ByKind.{clock_word, measuring_word}

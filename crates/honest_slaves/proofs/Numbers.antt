@@ -14,7 +14,7 @@ use Rattle.esc_regs.specs.declared.clock_kind.ClockKind.{ClockKind}
 use Rattle.frame_pass.specs.SlaveState.{Slave}
 use Rattle.frame_pass.specs.DatagramTable.{raised_by}
 use Rattle.frame_pass.specs.FramePass.{datagrams_behind}
-use Rattle.segment_shape.specs.Slaves.{measures, has_clock}
+use Rattle.esc_regs.specs.Kinds.{measures, has_clock}
 use Rattle.frame_pass.specs.Aside.{HaveSize}
 use Rattle.frame_pass.specs.Counters.{gains}
 use Rattle.frame_pass.proofs.Exported.{counts}

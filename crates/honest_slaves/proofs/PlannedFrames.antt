@@ -5,7 +5,7 @@ use Rattle.std.proofs.lemmas.Bool.{cases_lt}
 use Rattle.std.proofs.lemmas.Bool.Decides.{nat_tests}
 use Rattle.ecat_frame.specs.FrameGrammar.{DatagramValue, FrameValue}
 use Rattle.esc_regs.specs.declared.clock_kind.ClockKind.{ClockKind}
-use Rattle.segment_shape.specs.Slaves.{has_clock}
+use Rattle.esc_regs.specs.Kinds.{has_clock}
 use Rattle.sync_units.specs.declared.edge.Signal.{Signal}
 use Rattle.sync_units.specs.declared.edge.Signal.TheVariants.{Sync0, Sync1}
 use Rattle.frame_pass.specs.SlaveState.{Slave}

@@ -9,7 +9,7 @@ use Rattle.master_script.specs.Slaves.{SlaveWords, is_clock, is_measuring, clock
 use Rattle.segment_file.specs.Legal.{IsLegal}
 use Rattle.segment_file.specs.Segment.{RowValue, SegmentValue, clock_at, measures_at, no_row, row_at}
 use Rattle.segment_file.proofs.Exported.{row_within}
-use Rattle.segment_shape.specs.Slaves.{measures, has_clock}
+use Rattle.esc_regs.specs.Kinds.{measures, has_clock}
 use Rattle.honest_slaves.specs.Told.{word_of, words_of}
 use Rattle.honest_slaves.proofs.ByKind.{clock_word, measuring_word}
 use Rattle.honest_slaves.proofs.Numbers.{flagged, words_many}

@@ -10,7 +10,7 @@ use Rattle.esc_regs.specs.declared.clock_kind.ClockKind.{ClockKind}
 use Rattle.frame_pass.specs.SlaveState.{Slave}
 use Rattle.frame_pass.specs.DatagramAtSlave.{slave_after}
 use Rattle.frame_pass.specs.FramePass.{at_arrival, datagrams_after, datagrams_passed, datagrams_behind}
-use Rattle.segment_shape.specs.Slaves.{measures, has_clock}
+use Rattle.esc_regs.specs.Kinds.{measures, has_clock}
 use Rattle.frame_pass.specs.Stations.{slave_found}
 use Rattle.frame_pass.proofs.Exported.{IsByStation}
 use Rattle.master_script.specs.Config.{ConfigValue}

@@ -10,9 +10,9 @@ use Rattle.frame_pass.specs.Invariants.{IsSoundSegment}
 use Rattle.frame_pass.specs.Reach.{reach_of, reached_by}
 use Rattle.frame_pass.specs.SegmentState.{SegmentState, segment_step, leaves_at, phase_of, number_of, numbered, leaving, carried_of}
 use Rattle.frame_pass.proofs.Exported.{no_difference, is_below, is_lost, is_not_sent}
-use Rattle.segment_shape.specs.Losses.{loss_at}
-use Rattle.segment_shape.specs.declared.loss_row.Phase.{Phase}
-use Rattle.segment_shape.specs.declared.loss_row.Phase.TheVariants.{Commission, Drift}
+use Rattle.loss_list.specs.Losses.{loss_at}
+use Rattle.loss_list.specs.declared.loss_row.Phase.{Phase}
+use Rattle.loss_list.specs.declared.loss_row.Phase.TheVariants.{Commission, Drift}
 use Rattle.honest_slaves.specs.Mindful.{Names, AreMindful}
 use Rattle.honest_slaves.proofs.Frames.{same_many, step_standing, step_naming}
 use Rattle.honest_slaves.specs.Told.{AreInOrder}

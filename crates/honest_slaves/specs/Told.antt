@@ -5,7 +5,7 @@ use Rattle.dc_delay.specs.ShapeRows.{positions}
 use Rattle.esc_regs.specs.RegisterTable.{features}
 use Rattle.esc_regs.specs.declared.clock_kind.ClockKind.{ClockKind}
 use Rattle.frame_pass.specs.SlaveState.{Slave}
-use Rattle.segment_shape.specs.Slaves.{measures, has_clock}
+use Rattle.esc_regs.specs.Kinds.{measures, has_clock}
 use Rattle.master_script.specs.Slaves.{SlaveWords}
 use Rattle.master_script.specs.Words.{Words}
 use Rattle.master_script.specs.declared.step.Step.{Step}

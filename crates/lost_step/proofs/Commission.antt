@@ -6,7 +6,7 @@ use Rattle.std.specs.Result.{result_err}
 use Rattle.dc_delay.specs.ShapeRows.{positions}
 use Rattle.master_script.specs.declared.step.Step.{Step}
 use Rattle.master_script.specs.declared.step.Step.TheVariants as step
-use Rattle.segment_shape.specs.declared.loss_row.Phase.TheVariants.{Commission, Drift}
+use Rattle.loss_list.specs.declared.loss_row.Phase.TheVariants.{Commission, Drift}
 use Rattle.segment_file.specs.Segment.{SegmentValue}
 use Rattle.lost_step.specs.LostStep.{loses, asked, measuring_positions, clock_positions, commission_steps, arm_steps, first_arming, lost_in_arming, lost_step_of}
 use Rattle.lost_step.specs.Rounds.{steps_of}

@@ -5,9 +5,9 @@ use Rattle.std.specs.Result.{result_err}
 use Rattle.dc_delay.specs.ShapeRows.{positions}
 use Rattle.master_script.specs.declared.step.Step.{Step}
 use Rattle.master_script.specs.declared.step.Step.TheVariants.{Count, Identify, Rate, Latch, Times, Set, Arm}
-use Rattle.segment_shape.specs.Losses.{loss_at}
-use Rattle.segment_shape.specs.declared.loss_row.Phase.{Phase}
-use Rattle.segment_shape.specs.declared.loss_row.Phase.TheVariants.{Commission, Drift}
+use Rattle.loss_list.specs.Losses.{loss_at}
+use Rattle.loss_list.specs.declared.loss_row.Phase.{Phase}
+use Rattle.loss_list.specs.declared.loss_row.Phase.TheVariants.{Commission, Drift}
 use Rattle.segment_file.specs.Faults.{lock_in}
 use Rattle.segment_file.specs.Segment.{SegmentValue, counts_of, measures_at, clock_at, row_at}
 

@@ -3,8 +3,8 @@ use Rattle.std.specs.Prelude.{ℕ, Bool, true, List, length, map, filter}
 use Rattle.dc_delay.specs.ShapeRows.{positions}
 use Rattle.master_script.specs.declared.step.Step.{Step}
 use Rattle.master_script.specs.declared.step.Step.TheVariants as step
-use Rattle.segment_shape.specs.declared.loss_row.Phase.{Phase}
-use Rattle.segment_shape.specs.declared.loss_row.Phase.TheVariants.{Commission, Drift}
+use Rattle.loss_list.specs.declared.loss_row.Phase.{Phase}
+use Rattle.loss_list.specs.declared.loss_row.Phase.TheVariants.{Commission, Drift}
 use Rattle.segment_file.specs.Segment.{SegmentValue, measures_at, clock_at, row_at}
 use Rattle.lost_step.specs.declared.tries.Round.{Round}
 use Rattle.lost_step.specs.declared.tries.Round.TheVariants.{Identify, Times, Set, Arm}

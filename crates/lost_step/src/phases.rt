@@ -2,7 +2,7 @@
 
 ghost use Rattle.std.specs.Prelude.{◌≡◌};
 ghost use Rattle.lost_step.specs.LostStep.{asked, commission_steps, loses, lost_step_of};
-ghost use Rattle.segment_shape.specs.declared.loss_row.Phase.TheVariants as phase;
+ghost use Rattle.loss_list.specs.declared.loss_row.Phase.TheVariants as phase;
 
 use crate::tries::{Round, ask, ask_each};
 use master_script::Step;

@@ -17,7 +17,7 @@ use Rattle.master_script.specs.declared.step.Refusal.TheVariants.{Lost}
 use Rattle.master_script.specs.declared.step.Step.{Step}
 use Rattle.master_script.specs.declared.step.Step.TheVariants as step
 use Rattle.master_script.proofs.Exported.{commission_done, calls_scripted}
-use Rattle.segment_shape.specs.declared.loss_row.Phase.TheVariants as frames
+use Rattle.loss_list.specs.declared.loss_row.Phase.TheVariants as frames
 use Rattle.frame_pass.specs.SegmentState.{SegmentState, segment_step}
 use Rattle.segment_file.specs.Segment.{SegmentValue}
 use Rattle.segment_file.specs.Legal.{IsLegal}

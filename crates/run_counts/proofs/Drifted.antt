@@ -16,8 +16,8 @@ use Rattle.run_counts.proofs.Led.{Followed, HasGone, IsLed, followed, led_on, of
 use Rattle.run_counts.proofs.Numbers.{frames_of, in_step, starts_in_step}
 use Rattle.segment_file.specs.Legal.{IsLegal}
 use Rattle.segment_file.specs.Segment.{SegmentValue}
-use Rattle.segment_shape.specs.declared.loss_row.Phase.{Phase}
-use Rattle.segment_shape.specs.declared.loss_row.Phase.TheVariants as phase
+use Rattle.loss_list.specs.declared.loss_row.Phase.{Phase}
+use Rattle.loss_list.specs.declared.loss_row.Phase.TheVariants as phase
 use Rattle.segment_start.specs.Start.{started_segment}
 
 some_same : {X : Type 0} {x y : X} → Some x ≡ Some y → x ≡ y

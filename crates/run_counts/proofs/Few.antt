@@ -33,7 +33,7 @@ use Rattle.run_counts.proofs.Numbers.{in_step}
 use Rattle.segment_file.specs.Legal.{IsLegal}
 use Rattle.segment_file.specs.Segment.{SegmentValue, clocks}
 use Rattle.segment_file.proofs.Exported.{legal_frames}
-use Rattle.segment_shape.specs.declared.loss_row.Phase.TheVariants as phase
+use Rattle.loss_list.specs.declared.loss_row.Phase.TheVariants as phase
 use Rattle.run_counts.proofs.Positions.{clocks_counted, commissioning_counted, measuring_counted}
 
 module _ (s : SegmentValue) (legal : IsLegal s) where

@@ -19,10 +19,10 @@ use Rattle.run_counts.proofs.Numbers.{InStep, few_sent, frame_phase, frames_of, 
 use Rattle.run_counts.proofs.Stepping.{NumbersOn, step_back, step_numbers}
 use Rattle.segment_file.specs.Legal.{IsLegal}
 use Rattle.segment_file.specs.Segment.{SegmentValue}
-use Rattle.segment_shape.specs.Losses.{loss_at}
-use Rattle.segment_shape.specs.declared.loss_row.LossRow.{LossRow}
-use Rattle.segment_shape.specs.declared.loss_row.Phase.{Phase}
-use Rattle.segment_shape.specs.declared.loss_row.Phase.TheVariants.{Commission, Drift}
+use Rattle.loss_list.specs.Losses.{loss_at}
+use Rattle.loss_list.specs.declared.loss_row.LossRow.{LossRow}
+use Rattle.loss_list.specs.declared.loss_row.Phase.{Phase}
+use Rattle.loss_list.specs.declared.loss_row.Phase.TheVariants.{Commission, Drift}
 use Rattle.run_counts.specs.Numbers.{lost_numbers}
 
 some_same : {X : Type 0} {x y : X} → Some x ≡ Some y → x ≡ y

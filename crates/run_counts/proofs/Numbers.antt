@@ -10,8 +10,8 @@ use Rattle.master_script.specs.Script.{script, Call, Commission, Settle, Arm, Ru
 use Rattle.master_script.specs.Scripted.{AreScripted, none, more}
 use Rattle.master_script.specs.declared.step.Refusal.{Refusal}
 use Rattle.master_script.proofs.Exported.{after_counts, after_drifts, progress_sent, progress_push, sends_most, phase_of as phase_of_call, wants, wanted_drift, wanted_other}
-use Rattle.segment_shape.specs.declared.loss_row.Phase.{Phase}
-use Rattle.segment_shape.specs.declared.loss_row.Phase.TheVariants as frames
+use Rattle.loss_list.specs.declared.loss_row.Phase.{Phase}
+use Rattle.loss_list.specs.declared.loss_row.Phase.TheVariants as frames
 use Rattle.frame_pass.specs.SegmentState.{SegmentState, segment_step, phase_of}
 use Rattle.frame_pass.specs.Invariants.{IsOnTime}
 use Rattle.frame_pass.proofs.Exported.{step_sent, on_time_step, next_leaves}

@@ -14,7 +14,7 @@ use Rattle.master_script.specs.declared.step.Refusal.{Refusal}
 use Rattle.master_script.specs.declared.step.Refusal.TheVariants.{Lost}
 use Rattle.master_script.specs.declared.step.Step.{Step}
 use Rattle.master_script.specs.declared.step.Step.TheVariants.{Drift}
-use Rattle.segment_shape.specs.declared.loss_row.Phase.TheVariants as frames
+use Rattle.loss_list.specs.declared.loss_row.Phase.TheVariants as frames
 use Rattle.segment_file.specs.Segment.{SegmentValue}
 use Rattle.segment_file.specs.Legal.{IsLegal}
 use Rattle.lost_step.specs.LostStep.{loses}

@@ -12,8 +12,8 @@ use Rattle.master_script.specs.declared.step.Refusal.{Refusal}
 use Rattle.master_script.specs.declared.step.Refusal.TheVariants.{Lost}
 use Rattle.master_script.specs.declared.step.Step.{Step}
 use Rattle.master_script.proofs.Exported.{settle_sends, SoundBy, progress_sound}
-use Rattle.segment_shape.specs.declared.loss_row.Phase.TheVariants as frames
-use Rattle.segment_shape.proofs.Exported.{listed_by_loss}
+use Rattle.loss_list.specs.declared.loss_row.Phase.TheVariants as frames
+use Rattle.loss_list.proofs.Exported.{listed_by_loss}
 use Rattle.segment_file.specs.Segment.{SegmentValue}
 use Rattle.segment_file.specs.Legal.{IsLegal}
 use Rattle.segment_file.proofs.Exported.{one_comes}

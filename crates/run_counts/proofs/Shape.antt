@@ -8,7 +8,7 @@ use Rattle.master_script.specs.Script.{script, Settle, Arm, Run}
 use Rattle.master_script.specs.Slaves.{clocks}
 use Rattle.master_script.specs.declared.step.Step.TheVariants as step
 use Rattle.master_script.proofs.Exported.{settle_sends, run_sends, progress_sent}
-use Rattle.segment_shape.specs.declared.loss_row.Phase.TheVariants as frames
+use Rattle.loss_list.specs.declared.loss_row.Phase.TheVariants as frames
 use Rattle.segment_file.specs.Segment.{SegmentValue}
 use Rattle.segment_file.specs.Legal.{IsLegal}
 use Rattle.lost_step.specs.LostStep.{loses, clock_positions, commission_steps, first_arming}

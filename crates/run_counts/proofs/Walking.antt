@@ -8,9 +8,9 @@ use Rattle.master_script.specs.Progress.{Progress, progress, after}
 use Rattle.master_script.specs.Script.{script, Call, Commission, Settle, Arm, Run}
 use Rattle.master_script.specs.Scripted.{AreScripted, IsLimited, more}
 use Rattle.master_script.proofs.Exported.{progress_sent, progress_push}
-use Rattle.segment_shape.specs.Losses.{loss_at}
-use Rattle.segment_shape.specs.declared.loss_row.LossRow.{LossRow}
-use Rattle.segment_shape.specs.declared.loss_row.Phase.{Phase}
+use Rattle.loss_list.specs.Losses.{loss_at}
+use Rattle.loss_list.specs.declared.loss_row.LossRow.{LossRow}
+use Rattle.loss_list.specs.declared.loss_row.Phase.{Phase}
 use Rattle.frame_pass.specs.SegmentState.{SegmentState, segment_step, number_of}
 use Rattle.segment_file.specs.Segment.{SegmentValue}
 use Rattle.segment_file.specs.Legal.{IsLegal}

@@ -4,7 +4,7 @@ use Rattle.ecat_link.specs.Exchanges.{Exchange}
 use Rattle.frame_pass.specs.SegmentState.{phase_of}
 use Rattle.lost_step.specs.LostStep.{loses}
 use Rattle.segment_file.specs.Segment.{SegmentValue}
-use Rattle.segment_shape.specs.declared.loss_row.Phase.{Phase}
+use Rattle.loss_list.specs.declared.loss_row.Phase.{Phase}
 
 -- They are frames of this phase, numbered from this number on, and those are lost that the file lists.
 abbrev pub AreNumbered : SegmentValue → Phase → ℕ → List Exchange → Type 0

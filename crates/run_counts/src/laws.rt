@@ -20,7 +20,7 @@ ghost use Rattle.run_counts.specs.Reached.{Reached};
 ghost use Rattle.run_counts.specs.Settling.{Settles, StandsSettling};
 ghost use Rattle.lost_step.specs.LostStep.{arm_steps, asked, clock_positions, commission_steps, measuring_positions, loses, lost_step_of};
 ghost use Rattle.run_counts.specs.Numbers.{IsLostAt, lost_numbers};
-ghost use Rattle.segment_shape.specs.declared.loss_row.Phase.TheVariants as phase;
+ghost use Rattle.loss_list.specs.declared.loss_row.Phase.TheVariants as phase;
 ghost use Rattle.run_counts.specs.Answers.{answer_for};
 ghost use Rattle.run_counts.specs.Honest.{HasHonestReplies};
 ghost use Rattle.std.specs.Option.{is_some};

@@ -6,9 +6,9 @@ use Rattle.ecat_link.specs.Exchanges.{Exchange, Runs}
 use Rattle.ecat_link.proofs.Exported.{driven, runs_then}
 use Rattle.master_script.specs.Script.{Call, Commission, Settle, Arm, Run, Answer, script}
 use Rattle.master_script.proofs.Exported.{sends_most}
-use Rattle.segment_shape.specs.Losses.{loss_at}
-use Rattle.segment_shape.specs.declared.loss_row.Phase.{Phase}
-use Rattle.segment_shape.specs.declared.loss_row.Phase.TheVariants.{Commission as CommissionFrame, Drift}
+use Rattle.loss_list.specs.Losses.{loss_at}
+use Rattle.loss_list.specs.declared.loss_row.Phase.{Phase}
+use Rattle.loss_list.specs.declared.loss_row.Phase.TheVariants.{Commission as CommissionFrame, Drift}
 use Rattle.frame_pass.specs.SegmentState.{SegmentState, segment_step, carried, leaves_at, leaving, number_of, numbered, phase_of}
 use Rattle.segment_file.specs.Segment.{SegmentValue}
 use Rattle.segment_file.specs.Legal.{IsLegal}

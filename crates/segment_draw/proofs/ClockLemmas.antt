@@ -8,7 +8,7 @@ use Rattle.esc_regs.specs.declared.clock_kind.ClockKind.{ClockKind}
 use Rattle.esc_regs.specs.declared.clock_kind.ClockKind.TheVariants as kind
 use Rattle.cable_tree.specs.Row.{IsRow}
 use Rattle.segment_shape.specs.Ranges.{IsRate}
-use Rattle.segment_shape.specs.Slaves.{measures}
+use Rattle.esc_regs.specs.Kinds.{measures}
 use Rattle.segment_file.specs.Segment.{RowValue, tree_row}
 use Rattle.segment_file.specs.Faults.{is_off, is_within}
 use Rattle.segment_file.specs.Legal.{IsClock}

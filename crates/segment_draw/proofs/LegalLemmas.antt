@@ -4,7 +4,7 @@ use Rattle.std.specs.List.{All, find}
 use Rattle.std.proofs.lemmas.List.{length-map, get_or-map, length-take-le}
 use Rattle.std.proofs.lemmas.List.Elements.{All-nil, All-head, All-tail}
 use Rattle.segment_shape.specs.Head.{HeadValue}
-use Rattle.segment_shape.specs.declared.loss_row.LossRow.{LossRow}
+use Rattle.loss_list.specs.declared.loss_row.LossRow.{LossRow}
 use Rattle.segment_shape.specs.Ranges.{IsLoss}
 use Rattle.segment_shape.specs.Twice.{first_again}
 use Rattle.segment_shape.specs.Values.{is_id}

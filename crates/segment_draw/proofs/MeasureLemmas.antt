@@ -13,7 +13,7 @@ use Rattle.cable_tree.specs.FrameOrder as frame
 use Rattle.cable_tree.specs.Segment.{IsSegment}
 use Rattle.cable_tree.proofs.Exported.{child_hangs, root_of, subtree_is, order_once, order_within}
 use Rattle.dc_bounds.specs.Measurable.{branches, is_measured_within, is_measurable, unmeasurable}
-use Rattle.segment_shape.specs.Slaves.{measures, has_clock}
+use Rattle.esc_regs.specs.Kinds.{measures, has_clock}
 use Rattle.segment_file.specs.Segment.{RowValue, tree_row, tree_rows, clock_at, measures_at, is_clock, is_measuring, reference_row}
 use Rattle.segment_draw.specs.Generated.{behind}
 use Rattle.segment_draw.proofs.ClockLemmas.{of_kinds, first_clock, row_ok}

@@ -8,7 +8,7 @@ use Rattle.cable_tree.specs.declared.port.Port.TheVariants.{P1, P2, P3}
 use Rattle.esc_regs.specs.declared.clock_kind.ClockKind.{ClockKind}
 use Rattle.esc_regs.specs.declared.clock_kind.ClockKind.TheVariants as kind
 use Rattle.segment_shape.specs.Head.{HeadValue}
-use Rattle.segment_shape.specs.Slaves.{measures}
+use Rattle.esc_regs.specs.Kinds.{measures}
 use Rattle.segment_file.specs.Segment.{RowValue, SegmentValue, clock_at}
 use Rattle.segment_draw.specs.Draws.{Draws, draws_from, seeded}
 

@@ -9,7 +9,8 @@ use crate::draws::{draw_slave, seeded};
 use crate::slave::row_of;
 use dc_base::NoMemory;
 use segment_file::{Segment, SlaveRow};
-use segment_shape::{Head, LossList};
+use segment_shape::Head;
+use loss_list::LossList;
 use std::alloc::{AllocError, Global};
 
 /// The head of every generated segment.

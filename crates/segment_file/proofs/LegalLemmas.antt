@@ -14,7 +14,7 @@ use Rattle.dc_bounds.specs.TickFacts.{AreTicksOf}
 use Rattle.dc_bounds.proofs.Exported.{start_fits}
 use Rattle.cable_tree.proofs.Exported.{order_within, order_whole}
 use Rattle.segment_shape.specs.Head.{HeadValue}
-use Rattle.segment_shape.specs.declared.loss_row.LossRow.{LossRow}
+use Rattle.loss_list.specs.declared.loss_row.LossRow.{LossRow}
 use Rattle.std.proofs.lemmas.List.{length-map}
 use Rattle.segment_file.specs.Segment.{RowValue, SegmentValue, CountsValue, is_clock, clocks, signals, measures_at, clock_at, counts_of, tree_row, tree_rows, reference_row, row_at}
 use Rattle.segment_file.specs.Runs.{first_run}

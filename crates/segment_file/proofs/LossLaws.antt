@@ -4,14 +4,14 @@ use Rattle.std.specs.List.{All}
 use Rattle.std.proofs.Common.{arith, refl}
 use Rattle.std.proofs.lemmas.Bool.Decides.{nat_tests}
 use Rattle.std.proofs.lemmas.List.Elements.{All-weaker}
-use Rattle.segment_shape.specs.Losses.{loss_at}
-use Rattle.segment_shape.specs.LossTable.{IsNumber, last_number}
+use Rattle.loss_list.specs.Losses.{loss_at}
+use Rattle.loss_list.specs.LossTable.{IsNumber, last_number}
 use Rattle.segment_shape.specs.Ranges.{IsLoss}
 use Rattle.segment_shape.specs.Head.{HeadValue}
-use Rattle.segment_shape.specs.declared.loss_row.Phase.{Phase}
-use Rattle.segment_shape.specs.declared.loss_row.Phase.TheVariants.{Drift}
-use Rattle.segment_shape.specs.declared.loss_row.LossRow.{LossRow}
-use Rattle.segment_shape.proofs.Exported.{lost_nowhere, unlisted_outside}
+use Rattle.loss_list.specs.declared.loss_row.Phase.{Phase}
+use Rattle.loss_list.specs.declared.loss_row.Phase.TheVariants.{Drift}
+use Rattle.loss_list.specs.declared.loss_row.LossRow.{LossRow}
+use Rattle.loss_list.proofs.Exported.{lost_nowhere, unlisted_outside}
 use Rattle.segment_file.specs.Runs.{is_lost, is_run, first_run, greatest_number}
 use Rattle.segment_file.specs.Segment.{SegmentValue, CountsValue, counts_of}
 use Rattle.segment_file.specs.Faults.{frame_fault, loss_run}

@@ -4,9 +4,9 @@ use Rattle.std.specs.List.{All, find, list_all, range_with_len}
 use Rattle.std.proofs.Common.{arith, refl, subst}
 use Rattle.std.proofs.lemmas.Bool.Decides.{nat_tests}
 use Rattle.std.proofs.lemmas.List.Elements.{All-head, All-tail}
-use Rattle.segment_shape.specs.Losses.{is_same_phase, is_loss_of}
-use Rattle.segment_shape.specs.declared.loss_row.Phase.TheVariants.{Drift}
-use Rattle.segment_shape.specs.declared.loss_row.LossRow.{LossRow}
+use Rattle.loss_list.specs.Losses.{is_same_phase, is_loss_of}
+use Rattle.loss_list.specs.declared.loss_row.Phase.TheVariants.{Drift}
+use Rattle.loss_list.specs.declared.loss_row.LossRow.{LossRow}
 use Rattle.segment_file.specs.Runs.{is_lost, is_run, greatest_number}
 
 pub greatest_number_is : greatest_number ≡ 100000

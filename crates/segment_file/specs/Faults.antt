@@ -10,7 +10,7 @@ use Rattle.dc_bounds.specs.LockNumbers.{period_fs, lock_step, lock_count, reach_
 use Rattle.dc_bounds.specs.RunNumbers.{run_frames}
 use Rattle.dc_bounds.specs.Measurable.{unmeasurable}
 use Rattle.segment_shape.specs.Head.{HeadValue}
-use Rattle.segment_shape.specs.declared.loss_row.LossRow.{LossRow}
+use Rattle.loss_list.specs.declared.loss_row.LossRow.{LossRow}
 use Rattle.segment_file.specs.Segment.{RowValue, SegmentValue, CountsValue, tree_rows, is_measuring, measures_at, counts_of, reference_row}
 use Rattle.segment_file.specs.Runs.{first_run}
 

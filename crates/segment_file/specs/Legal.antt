@@ -4,7 +4,7 @@ use Rattle.std.specs.List.{All}
 use Rattle.osc_clock.specs.Ticks.{AreRising, IsRunning}
 use Rattle.cable_tree.specs.Segment.{IsSegment}
 use Rattle.dc_bounds.specs.TickFacts.{IsWithin}
-use Rattle.segment_shape.specs.Slaves.{measures, has_clock, greatest_start}
+use Rattle.esc_regs.specs.Kinds.{measures, has_clock, greatest_start}
 use Rattle.segment_shape.specs.Ranges.{IsHead, IsRate, IsLoss, AreOnce}
 use Rattle.segment_shape.specs.Values.{is_id}
 use Rattle.segment_shape.specs.Twice.{first_again}

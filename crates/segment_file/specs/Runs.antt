@@ -1,10 +1,10 @@
 -- Drift frames that are listed as lost in a row.
 use Rattle.std.specs.Prelude.{ℕ, Bool, Option, List}
 use Rattle.std.specs.List.{find, list_all, range_with_len}
-use Rattle.segment_shape.specs.Losses.{is_listed}
-use Rattle.segment_shape.specs.LossTable.{last_number}
-use Rattle.segment_shape.specs.declared.loss_row.Phase.TheVariants.{Drift}
-use Rattle.segment_shape.specs.declared.loss_row.LossRow.{LossRow}
+use Rattle.loss_list.specs.Losses.{is_listed}
+use Rattle.loss_list.specs.LossTable.{last_number}
+use Rattle.loss_list.specs.declared.loss_row.Phase.TheVariants.{Drift}
+use Rattle.loss_list.specs.declared.loss_row.LossRow.{LossRow}
 
 -- the drift frame of this number is listed as lost
 abbrev pub is_lost : List LossRow → ℕ → Bool

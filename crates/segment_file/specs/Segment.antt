@@ -7,8 +7,8 @@ use Rattle.cable_tree.specs.declared.port.Above.{Above}
 use Rattle.cable_tree.specs.FrameOrder.{order}
 use Rattle.cable_tree.specs.Row.{Row}
 use Rattle.segment_shape.specs.Head.{HeadValue}
-use Rattle.segment_shape.specs.Slaves.{measures, has_clock}
-use Rattle.segment_shape.specs.declared.loss_row.LossRow.{LossRow}
+use Rattle.esc_regs.specs.Kinds.{measures, has_clock}
+use Rattle.loss_list.specs.declared.loss_row.LossRow.{LossRow}
 use Rattle.dc_bounds.specs.Weight.{flag, reference}
 
 -- a slave; the numbers of its clock are 0, empty or None where it has none

@@ -4,7 +4,7 @@ ghost use Rattle.segment_file.specs.Segment.{clocks, counts_of, measuring};
 ghost use Rattle.segment_file.specs.Seen.{counts_seen, row_seen};
 
 use crate::slave_row::SlaveRow;
-use segment_shape::{has_clock, measures};
+use esc_regs::{has_clock, measures};
 
 /// How many slaves and signals a segment has.
 #[derive(Clone, Copy, Debug, PartialEq, Eq)]

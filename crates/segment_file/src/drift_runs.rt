@@ -2,7 +2,7 @@ ghost use Rattle.std.specs.Prelude.{◌≡◌, ◌≤◌};
 ghost use Rattle.std.specs.List.{All};
 ghost use Rattle.segment_file.specs.Runs.{first_run, is_run};
 
-use segment_shape::{LossList, LossRow, Phase};
+use loss_list::{LossList, LossRow, Phase};
 
 /// The greatest number of a frame that is listed as lost.
 const LAST_NUMBER: u32 = 100_000;

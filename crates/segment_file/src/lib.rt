@@ -25,5 +25,7 @@ mod time_checks;
 
 pub use seg_error::{SegError, ShapeTree};
 pub use segment::{Segment, read_segment};
-pub use segment_shape::{Id, KeyPath, LossRow, Phase, has_clock, measures};
+pub use segment_shape::{Id, KeyPath};
+pub use esc_regs::{has_clock, measures};
+pub use loss_list::{LossRow, Phase};
 pub use slave_row::{Flags, SlaveRow, clock_flags, measuring_flags};

@@ -2,7 +2,7 @@ ghost use Rattle.std.specs.Prelude.{◌≡◌, ◌<◌, ◌≤◌, IfErr, IfOk, 
 ghost use Rattle.serde_json.specs.Data.{Data};
 ghost use Rattle.cable_tree.specs.FrameOrder.{order};
 ghost use Rattle.cable_tree.specs.Positions.{position_of};
-ghost use Rattle.segment_shape.specs.Losses.{loss_at};
+ghost use Rattle.loss_list.specs.Losses.{loss_at};
 ghost use Rattle.segment_shape.specs.Ranges.{IsFile};
 ghost use Rattle.segment_shape.specs.Seen.{head_seen, shape_seen};
 ghost use Rattle.segment_shape.specs.ShapeOf.{file_of};
@@ -22,7 +22,8 @@ use crate::slave_row::{SlaveRow, clock_flags};
 use crate::time_checks::step_of;
 use cable_tree::Tree;
 use dc_bounds::reference;
-use segment_shape::{Head, LossList, LossRow, Phase, Shape, read_shape};
+use segment_shape::{Head, Shape, read_shape};
+use loss_list::{LossList, LossRow, Phase};
 use std::alloc::{AllocError, Global};
 use std::marker::Model;
 

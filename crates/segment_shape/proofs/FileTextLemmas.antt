@@ -10,14 +10,15 @@ use Rattle.osc_clock.specs.Ticks.{Rate}
 use Rattle.esc_regs.specs.declared.clock_kind.ClockKind.{ClockKind}
 use Rattle.esc_regs.specs.declared.clock_kind.ClockKind.TheVariants as kind
 use Rattle.segment_shape.specs.Values.{is_id, is_id_byte}
-use Rattle.segment_shape.specs.Slaves.{ParentValue, SlaveValue, measures, has_clock, greatest_start, changes}
+use Rattle.segment_shape.specs.Slaves.{ParentValue, SlaveValue, changes}
+use Rattle.esc_regs.specs.Kinds.{measures, has_clock, greatest_start}
 use Rattle.segment_shape.specs.ShapeOf.{ShapeValue}
 use Rattle.segment_shape.specs.Ranges.{IsRate, IsParent, IsSlave, IsLoss, IsFile}
 use Rattle.segment_shape.specs.Told.{IsText}
 use Rattle.segment_shape.specs.Written.{members_of, items_for, whole, at_key, at_key_if, at_key_of, kind_name, phase_name, rate_entries, rate_data, slave_entries, slave_data, loss_entries, loss_data, file_entries, file_data, file_text}
-use Rattle.segment_shape.specs.declared.loss_row.LossRow.{LossRow}
-use Rattle.segment_shape.specs.declared.loss_row.Phase.{Phase}
-use Rattle.segment_shape.specs.declared.loss_row.Phase.TheVariants.{Commission, Drift}
+use Rattle.loss_list.specs.declared.loss_row.LossRow.{LossRow}
+use Rattle.loss_list.specs.declared.loss_row.Phase.{Phase}
+use Rattle.loss_list.specs.declared.loss_row.Phase.TheVariants.{Commission, Drift}
 use Rattle.segment_shape.proofs.TextLemmas.{IsPlain, IsPlainEntry, rise, plain_read, plain_utf8, plainer, whole_plain, string_plain, items_plain, array_plain, object_plain}
 
 -- ---- entries

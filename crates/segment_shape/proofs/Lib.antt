@@ -3,7 +3,6 @@ mod FileLemmas
 mod FileTextLemmas
 mod ItemLemmas
 mod LineFeedLemmas
-mod LossLemmas
 mod PathLemmas
 mod RangeLemmas
 mod RateLemmas

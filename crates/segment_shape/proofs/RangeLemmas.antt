@@ -15,14 +15,16 @@ use Rattle.segment_shape.specs.Keys.{only, head_keys, slave_keys, rate_keys, los
 use Rattle.segment_shape.specs.Rows.{rows_after}
 use Rattle.segment_shape.specs.Head.{HeadValue, head_of}
 use Rattle.segment_shape.specs.Rates.{last_tick, rate_behind, rate_in, rates_of}
-use Rattle.segment_shape.specs.Slaves.{ParentValue, PlaceValue, TimesValue, SlaveValue, measures, has_clock, greatest_start, kind_at, port_of, parent_of, place_of, changes, rates_where, times_of, slave, slave_of, slave_in}
-use Rattle.segment_shape.specs.Losses.{phase_at, is_loss_of, is_listed, unlisted, loss_in}
+use Rattle.segment_shape.specs.Slaves.{ParentValue, PlaceValue, TimesValue, SlaveValue, kind_at, port_of, parent_of, place_of, changes, rates_where, times_of, slave, slave_of, slave_in}
+use Rattle.esc_regs.specs.Kinds.{measures, has_clock, greatest_start}
+use Rattle.segment_shape.specs.Losses.{phase_at, unlisted, loss_in}
+use Rattle.loss_list.specs.Losses.{is_loss_of, is_listed}
 use Rattle.segment_shape.specs.Twice.{first_again}
 use Rattle.segment_shape.specs.ShapeOf.{ShapeValue, shape_of, with_distinct_ids, unless_again, file_of}
 use Rattle.segment_shape.specs.Ranges.{IsHead, IsRate, IsParent, IsSlave, IsLoss, AreOnce, IsFile}
-use Rattle.segment_shape.specs.declared.loss_row.LossRow.{LossRow}
-use Rattle.segment_shape.specs.declared.loss_row.Phase.{Phase}
-use Rattle.segment_shape.proofs.LossLemmas.{unlisted_at}
+use Rattle.loss_list.specs.declared.loss_row.LossRow.{LossRow}
+use Rattle.loss_list.specs.declared.loss_row.Phase.{Phase}
+use Rattle.loss_list.proofs.Exported.{unlisted_at}
 use Rattle.segment_shape.proofs.ReadingLemmas.{IsWhere, id_of_ok, id_at_ok, or_fault_ok, bind_ok, only_ok, ok_same, lacking_ok, number_then, where_then, option_then, items_at_ok, items_if_any_ok, rows_keep, rows_many}
 
 pub head_ranges : (d : Data) (h : HeadValue) → head_of d ≡ Ok h → IsHead h

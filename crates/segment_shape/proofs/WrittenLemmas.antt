@@ -17,14 +17,16 @@ use Rattle.segment_shape.specs.Keys.{are_among, only, head_keys, slave_keys, rat
 use Rattle.segment_shape.specs.Rows.{rows_after}
 use Rattle.segment_shape.specs.Head.{HeadValue, head_of}
 use Rattle.segment_shape.specs.Rates.{last_tick, rate_behind, rate_in, rates_of}
-use Rattle.segment_shape.specs.Slaves.{ParentValue, SlaveValue, measures, has_clock, greatest_start, kind_named, kind_at, port_of, parent_of, place_of, changes, rates_where, times_of, slave_of, slave_in}
-use Rattle.segment_shape.specs.Losses.{phase_named, phase_at, is_loss_of, is_listed, unlisted, loss_in}
+use Rattle.segment_shape.specs.Slaves.{ParentValue, SlaveValue, kind_named, kind_at, port_of, parent_of, place_of, changes, rates_where, times_of, slave_of, slave_in}
+use Rattle.esc_regs.specs.Kinds.{measures, has_clock, greatest_start}
+use Rattle.segment_shape.specs.Losses.{phase_named, phase_at, unlisted, loss_in}
+use Rattle.loss_list.specs.Losses.{is_loss_of, is_listed}
 use Rattle.segment_shape.specs.ShapeOf.{ShapeValue, shape_of, file_of}
 use Rattle.segment_shape.specs.Ranges.{IsHead, IsRate, IsParent, IsSlave, IsLoss, AreOnce, IsFile}
 use Rattle.segment_shape.specs.Written.{members_of, items_for, whole, kind_name, phase_name, rate_entries, rate_data, slave_entries, slave_data, loss_entries, loss_data, file_entries, file_data}
-use Rattle.segment_shape.specs.declared.loss_row.LossRow.{LossRow}
-use Rattle.segment_shape.specs.declared.loss_row.Phase.{Phase}
-use Rattle.segment_shape.specs.declared.loss_row.Phase.TheVariants.{Commission, Drift}
+use Rattle.loss_list.specs.declared.loss_row.LossRow.{LossRow}
+use Rattle.loss_list.specs.declared.loss_row.Phase.{Phase}
+use Rattle.loss_list.specs.declared.loss_row.Phase.TheVariants.{Commission, Drift}
 use Rattle.segment_shape.proofs.EntryLemmas.{id_is, if_false, object_read, get_entry, known, known_keys, only_known, then_ok, number_read, where_read, shift_read, option_read, id_read, items_many, items_read, items_read_if_any, AreRead, rows_read}
 
 rate_says : (before : ℕ) (r : Rate) (d : Data) (ms : Members) → as_object d ≡ Some ms → get (codes "tick") d ≡ Some (whole r.tick) → get (codes "period_fs") d ≡ Some (whole r.period)

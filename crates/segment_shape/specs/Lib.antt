@@ -8,8 +8,6 @@ pub mod Head
 pub mod Rates
 pub mod Slaves
 pub mod Losses
-pub mod LossTable
-pub mod InsideLosses
 pub mod Twice
 pub mod ShapeOf
 pub mod Ranges

@@ -4,12 +4,13 @@ use Rattle.std.specs.Prelude.{◌≡◌, ℕ, ◌<◌, ◌≤◌, true, false, L
 use Rattle.std.specs.List.{All, AllPairs}
 use Rattle.osc_clock.specs.Ticks.{Rate, AreRising}
 use Rattle.segment_shape.specs.Head.{HeadValue}
-use Rattle.segment_shape.specs.Losses.{is_loss_of}
-use Rattle.segment_shape.specs.Slaves.{ParentValue, SlaveValue, measures, has_clock, greatest_start}
+use Rattle.loss_list.specs.Losses.{is_loss_of}
+use Rattle.segment_shape.specs.Slaves.{ParentValue, SlaveValue}
+use Rattle.esc_regs.specs.Kinds.{measures, has_clock, greatest_start}
 use Rattle.segment_shape.specs.Values.{is_id}
 use Rattle.segment_shape.specs.ShapeOf.{ShapeValue}
 use Rattle.segment_shape.specs.Twice.{first_again}
-use Rattle.segment_shape.specs.declared.loss_row.LossRow.{LossRow}
+use Rattle.loss_list.specs.declared.loss_row.LossRow.{LossRow}
 
 -- the head's numbers
 pub record IsHead (h : HeadValue) : Type 0 where

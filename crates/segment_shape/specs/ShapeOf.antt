@@ -9,7 +9,7 @@ use Rattle.segment_shape.specs.Head.{HeadValue, head_of}
 use Rattle.segment_shape.specs.Slaves.{SlaveValue, slave_in}
 use Rattle.segment_shape.specs.Losses.{loss_in}
 use Rattle.segment_shape.specs.Twice.{first_again}
-use Rattle.segment_shape.specs.declared.loss_row.LossRow.{LossRow}
+use Rattle.loss_list.specs.declared.loss_row.LossRow.{LossRow}
 
 pub record ShapeValue : Type 0 where
   pub head : HeadValue

@@ -1,11 +1,12 @@
 -- A slave row.
-use Rattle.std.specs.Prelude.{ℕ, ◌-◌, ◌^◌, ◌&&◌, ◌==◌, Bool, true, false, List, [], codes, Option, Some, None, Ok, option_and_then, if◌then◌else◌, unwrap_or}
+use Rattle.std.specs.Prelude.{ℕ, ◌-◌, ◌&&◌, ◌==◌, Bool, true, false, List, [], codes, Option, Some, None, Ok, option_and_then, if◌then◌else◌, unwrap_or}
 use Rattle.std.specs.Str.{bytes_eq}
 use Rattle.serde_json.specs.Data.{Data}
 use Rattle.serde_json.specs.Find.{get, as_str}
 use Rattle.osc_clock.specs.Ticks.{Rate}
 use Rattle.esc_regs.specs.declared.clock_kind.ClockKind.{ClockKind}
 use Rattle.esc_regs.specs.declared.clock_kind.ClockKind.TheVariants as kind
+use Rattle.esc_regs.specs.Kinds.{measures, has_clock, greatest_start}
 use Rattle.segment_shape.specs.Paths.{Reading, ◌>>=◌}
 use Rattle.segment_shape.specs.Values.{or_fault, number_at, number_where, option_where, id_of, id_at, lacking, members_at}
 use Rattle.segment_shape.specs.Keys.{only, slave_keys}
@@ -29,27 +30,6 @@ pub record SlaveValue : Type 0 where
   pub rates : List Rate
   pub shift_ns : ℕ
   pub sync1_ns : Option ℕ
-
--- the slave takes receive times
-abbrev pub measures : ClockKind → Bool
-measures kind.None = false
-measures kind.C32 = true
-measures kind.C64 = true
-measures kind.R32 = true
-
--- the slave has a clock that can be set
-abbrev pub has_clock : ClockKind → Bool
-has_clock kind.None = false
-has_clock kind.C32 = true
-has_clock kind.C64 = true
-has_clock kind.R32 = false
-
--- the greatest number that its time has room for
-abbrev pub greatest_start : ClockKind → ℕ
-greatest_start kind.None = 2 ^ 32 - 1
-greatest_start kind.C32 = 2 ^ 32 - 1
-greatest_start kind.C64 = 2 ^ 64 - 1
-greatest_start kind.R32 = 2 ^ 32 - 1
 
 -- the names of the kinds
 unfoldable pub kind_named : List ℕ → Option ClockKind

@@ -5,11 +5,12 @@ use Rattle.serde_json.specs.Written.{compact_text}
 use Rattle.osc_clock.specs.Ticks.{Rate}
 use Rattle.esc_regs.specs.declared.clock_kind.ClockKind.{ClockKind}
 use Rattle.esc_regs.specs.declared.clock_kind.ClockKind.TheVariants as kind
-use Rattle.segment_shape.specs.Slaves.{SlaveValue, measures, has_clock, changes}
+use Rattle.segment_shape.specs.Slaves.{SlaveValue, changes}
+use Rattle.esc_regs.specs.Kinds.{measures, has_clock}
 use Rattle.segment_shape.specs.ShapeOf.{ShapeValue}
-use Rattle.segment_shape.specs.declared.loss_row.Phase.{Phase}
-use Rattle.segment_shape.specs.declared.loss_row.Phase.TheVariants.{Commission, Drift}
-use Rattle.segment_shape.specs.declared.loss_row.LossRow.{LossRow}
+use Rattle.loss_list.specs.declared.loss_row.Phase.{Phase}
+use Rattle.loss_list.specs.declared.loss_row.Phase.TheVariants.{Commission, Drift}
+use Rattle.loss_list.specs.declared.loss_row.LossRow.{LossRow}
 
 -- a key, and what stands at it; None where the key is absent
 pub record Entry : Type 0 where

@@ -6,29 +6,10 @@ ghost use Rattle.segment_shape.specs.Losses.{phase_named, phase_of, phase_at, lo
 
 use crate::key::Key;
 use crate::known_keys::are_loss_keys;
-use crate::loss_list::LossList;
 use crate::row_fault::RowFault;
 use crate::value_at::number_at;
+use loss_list::{LossList, LossRow, Phase};
 use serde_json::Value;
-
-/// The kinds of frames, each of which is numbered on its own.
-#[derive(Clone, Copy, Debug, PartialEq, Eq)]
-pub enum Phase {
-    /// Frames whose first datagram is no FRMW.
-    Commission,
-    /// Frames whose first datagram is a FRMW: those that compensate the drift.
-    Drift,
-}
-
-/// A frame that is listed as lost.
-#[derive(Clone, Copy, Debug, PartialEq, Eq)]
-pub struct LossRow {
-    pub phase: Phase,
-    /// Of the frame in its phase, 1 to 100,000. No other row of a [`crate::Shape`] has both.
-    pub number: u32,
-    /// How many slaves the frame reached before, at most as many as there are.
-    pub after: u16,
-}
 
 #[tactic(auto, unfolding(crate::specs::Losses::phase_named))]
 fn phase_named(text: &str) -> Option<Phase>

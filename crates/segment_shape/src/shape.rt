@@ -14,12 +14,12 @@ use crate::id::Id;
 use crate::key::Key;
 use crate::key_path::{loss_path, root_path, slave_path};
 use crate::known_keys::are_head_keys;
-use crate::loss_list::LossList;
 use crate::loss_row::loss_in;
 use crate::segment_head::{Head, head_of};
 use crate::shape_error::ShapeError;
 use crate::slave_row::{ShapeRow, slave_of};
 use crate::value_at::{items_at, items_if_any};
+use loss_list::LossList;
 use serde_json::Value;
 use std::alloc::Global;
 

@@ -2,7 +2,8 @@ ghost use Rattle.std.specs.Prelude.{◌≡◌, ◌≤◌, ◌-◌, IfOk, IfErr, 
 ghost use Rattle.serde_json.specs.View.{view};
 ghost use Rattle.segment_shape.specs.FaultPaths.{path_of_slave};
 ghost use Rattle.segment_shape.specs.KeyNames.{name_of};
-ghost use Rattle.segment_shape.specs.Slaves.{measures, has_clock, greatest_start, changes, kind_named, kind_of, kind_at, parent_of, place_of, rates_where, times_of, slave_of};
+ghost use Rattle.segment_shape.specs.Slaves.{changes, kind_named, kind_of, kind_at, parent_of, place_of, rates_where, times_of, slave_of};
+ghost use Rattle.esc_regs.specs.Kinds.{measures, has_clock, greatest_start};
 ghost use Rattle.segment_shape.specs.Seen.{parent_seen, place_seen, times_seen, row_seen};
 
 use crate::id::Id;
@@ -12,7 +13,7 @@ use crate::rate_rows::rates_of;
 use crate::row_fault::RowFault;
 use crate::slave_fault::SlaveFault;
 use crate::value_at::{id_at, id_of, number_at, number_where, option_where};
-use esc_regs::ClockKind;
+use esc_regs::{ClockKind, greatest_start, has_clock, measures};
 use osc_clock::RateList;
 use serde_json::Value;
 
@@ -73,35 +74,6 @@ pub(crate) struct Times {
     rates: RateList,
     shift_ns: u32,
     sync1_ns: Option<u32>,
-}
-
-/// Whether a slave of this kind takes receive times.
-pub fn measures(kind: ClockKind) -> bool
-    ensures { result ≡ measures kind }
-{
-    match kind {
-        ClockKind::None => false,
-        ClockKind::C32 | ClockKind::C64 | ClockKind::R32 => true,
-    }
-}
-
-/// Whether a slave of this kind is a clock: it has a system time.
-pub fn has_clock(kind: ClockKind) -> bool
-    ensures { result ≡ has_clock kind }
-{
-    match kind {
-        ClockKind::None | ClockKind::R32 => false,
-        ClockKind::C32 | ClockKind::C64 => true,
-    }
-}
-
-fn greatest_start(kind: ClockKind) -> u64
-    ensures { result ≡ greatest_start kind }
-{
-    match kind {
-        ClockKind::None | ClockKind::C32 | ClockKind::R32 => 4_294_967_295,
-        ClockKind::C64 => u64::MAX,
-    }
 }
 
 #[tactic(auto, unfolding(crate::specs::Slaves::kind_named))]

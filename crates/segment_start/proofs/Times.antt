@@ -6,7 +6,7 @@ use Rattle.ecat_frame.specs.FrameGrammar.{FrameValue}
 use Rattle.esc_regs.specs.declared.clock_kind.ClockKind.{ClockKind}
 use Rattle.esc_regs.specs.declared.clock_kind.ClockKind.TheVariants as kind
 use Rattle.osc_clock.specs.Ticks.{IsRunning}
-use Rattle.segment_shape.specs.Slaves.{greatest_start, measures}
+use Rattle.esc_regs.specs.Kinds.{greatest_start, measures}
 use Rattle.segment_file.specs.Segment.{RowValue, SegmentValue, oscillator, no_row}
 use Rattle.segment_file.specs.Legal.{IsLegal, IsClock, KeepsTime}
 use Rattle.segment_file.proofs.Exported.{legal_round_trip, legal_clocks}

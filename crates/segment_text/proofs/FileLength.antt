@@ -11,12 +11,13 @@ use Rattle.serde_json.specs.Data.{array, string}
 use Rattle.serde_json.specs.Written.{compact_text}
 use Rattle.segment_shape.specs.Ranges.{IsRate, IsParent, IsSlave, IsLoss, IsFile}
 use Rattle.segment_shape.specs.ShapeOf.{ShapeValue}
-use Rattle.segment_shape.specs.Slaves.{ParentValue, SlaveValue, changes, greatest_start, has_clock, measures}
+use Rattle.segment_shape.specs.Slaves.{ParentValue, SlaveValue, changes}
+use Rattle.esc_regs.specs.Kinds.{greatest_start, has_clock, measures}
 use Rattle.segment_shape.specs.Values.{is_id}
 use Rattle.segment_shape.specs.Written.{whole, items_for, kind_name, phase_name, rate_data, rate_entries, slave_data, slave_entries, loss_data, loss_entries, file_data, file_entries, file_text, line_feed}
-use Rattle.segment_shape.specs.declared.loss_row.LossRow.{LossRow}
-use Rattle.segment_shape.specs.declared.loss_row.Phase.{Phase}
-use Rattle.segment_shape.specs.declared.loss_row.Phase.TheVariants.{Commission, Drift}
+use Rattle.loss_list.specs.declared.loss_row.LossRow.{LossRow}
+use Rattle.loss_list.specs.declared.loss_row.Phase.{Phase}
+use Rattle.loss_list.specs.declared.loss_row.Phase.TheVariants.{Commission, Drift}
 use Rattle.segment_file.specs.Legal.{IsLegal}
 use Rattle.segment_file.specs.Segment.{SegmentValue}
 use Rattle.segment_file.specs.Written.{segment_text, written}

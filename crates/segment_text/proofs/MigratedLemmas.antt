@@ -1,7 +1,7 @@
 -- Migration changes the version alone, and no check looks at it but for changes of periods in version 1.
 use Rattle.std.proofs.Common.{◌≡◌, ◌∙◌, ap, refl, sym, ℕ, List, arith}
 use Rattle.segment_shape.specs.Head.{HeadValue}
-use Rattle.segment_shape.specs.declared.loss_row.LossRow.{LossRow}
+use Rattle.loss_list.specs.declared.loss_row.LossRow.{LossRow}
 use Rattle.cable_tree.specs.Row.{Row}
 use Rattle.segment_file.specs.Faults.{time_fault, frame_fault, fault_of}
 use Rattle.segment_file.specs.Legal.{IsLegal}

@@ -7,10 +7,11 @@ use Rattle.serde_json.specs.Data.{Data, array, object, string}
 use Rattle.serde_json.specs.Written.{comma_if, compact_text, items_text, members_text}
 use Rattle.osc_clock.specs.Ticks.{Rate}
 use Rattle.segment_shape.specs.Written.{Entry, held, members_of, items_for, file_data, line_feed, at_key, at_key_if, at_key_of, whole, kind_name, loss_data, phase_name, rate_data, slave_data}
-use Rattle.segment_shape.specs.Slaves.{changes, has_clock, measures}
+use Rattle.segment_shape.specs.Slaves.{changes}
+use Rattle.esc_regs.specs.Kinds.{has_clock, measures}
 use Rattle.segment_file.specs.Segment.{RowValue, SegmentValue}
 use Rattle.segment_file.specs.Written.{parent_of, segment_text, written, written_row}
-use Rattle.segment_shape.specs.declared.loss_row.LossRow.{LossRow}
+use Rattle.loss_list.specs.declared.loss_row.LossRow.{LossRow}
 use Rattle.segment_text.specs.HeadText.{back_text, front_text}
 use Rattle.segment_text.specs.SlaveText.{oscillator_text, place_text, signal_text}
 use Rattle.segment_text.specs.Text.{opened, value_text, entry_text, entries_text}

@@ -1,7 +1,8 @@
 -- The text of a slave row, in three parts.
 use Rattle.std.specs.Prelude.{ℕ, List, ◌++◌, Option, codes}
 use Rattle.serde_json.specs.Data.{string, array}
-use Rattle.segment_shape.specs.Slaves.{ParentValue, changes, has_clock, measures}
+use Rattle.segment_shape.specs.Slaves.{ParentValue, changes}
+use Rattle.esc_regs.specs.Kinds.{has_clock, measures}
 use Rattle.segment_shape.specs.Written.{at_key, at_key_if, at_key_of, whole, items_for, kind_name, rate_data}
 use Rattle.segment_file.specs.Segment.{RowValue}
 use Rattle.segment_text.specs.Text.{entry_text, opened}

@@ -8,7 +8,8 @@ ghost use Rattle.segment_text.specs.Migrated.{migrated};
 use dc_base::NoMemory;
 use osc_clock::{RateList, RateRow};
 use segment_file::{LossRow, Segment, SlaveRow};
-use segment_shape::{Head, LossList};
+use segment_shape::Head;
+use loss_list::LossList;
 use std::alloc::{AllocError, Global};
 
 fn copied_rates(rates: &[RateRow]) -> RateList

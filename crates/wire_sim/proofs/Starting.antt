@@ -11,7 +11,7 @@ use Rattle.cable_tree.specs.Segment.{IsSegment}
 use Rattle.cable_tree.specs.declared.port.Port.{Port}
 use Rattle.cable_tree.specs.declared.port.Port.TheVariants.{P1, P2, P3}
 use Rattle.cable_tree.proofs.Exported.{port_time_inside, inside}
-use Rattle.segment_shape.specs.Slaves.{greatest_start, measures}
+use Rattle.esc_regs.specs.Kinds.{greatest_start, measures}
 use Rattle.segment_file.specs.Segment.{RowValue, SegmentValue, no_row, oscillator, tree_rows}
 use Rattle.segment_file.specs.Legal.{IsLegal, IsClock, KeepsTime}
 use Rattle.segment_file.specs.Seen.{row_seen}

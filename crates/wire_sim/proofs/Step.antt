@@ -5,9 +5,9 @@ use Rattle.std.proofs.lemmas.Bool.Decides.{nat_tests}
 use Rattle.dc_base.specs.Causes.{raised}
 use Rattle.ecat_frame.specs.FrameGrammar.{DatagramValue, FrameValue, all_spelled}
 use Rattle.ecat_link.specs.Exchanges.{Follows}
-use Rattle.segment_shape.specs.Losses.{loss_at}
-use Rattle.segment_shape.specs.declared.loss_row.Phase.{Phase}
-use Rattle.segment_shape.specs.declared.loss_row.Phase.TheVariants.{Commission, Drift}
+use Rattle.loss_list.specs.Losses.{loss_at}
+use Rattle.loss_list.specs.declared.loss_row.Phase.{Phase}
+use Rattle.loss_list.specs.declared.loss_row.Phase.TheVariants.{Commission, Drift}
 use Rattle.wire_sim.specs.Loses.{LosesNext}
 use Rattle.frame_pass.specs.SegmentState.{SegmentState, phase_of, number_of, numbered, leaving, leaves_at, carried, carried_of, segment_step}
 

@@ -1,7 +1,7 @@
 -- Which frames are lost.
 use Rattle.std.specs.Prelude.{◌+◌, ◌≤◌, ◌⊎◌, IsSome}
 use Rattle.ecat_frame.specs.FrameGrammar.{FrameValue}
-use Rattle.segment_shape.specs.Losses.{loss_at}
+use Rattle.loss_list.specs.Losses.{loss_at}
 use Rattle.frame_pass.specs.SegmentState.{SegmentState, phase_of, number_of}
 
 -- 1,000,000 frames were sent, or the next number of the frame's phase is listed

@@ -1,5 +1,5 @@
 use Rattle.std.proofs.Common.{◌≡◌, ◌∙◌, get_or, ap, sym, inl, inr}
-use Rattle.segment_shape.specs.Slaves.{measures, has_clock}
+use Rattle.esc_regs.specs.Kinds.{measures, has_clock}
 use Rattle.segment_file.specs.Segment.{is_clock, is_measuring, clock_at, measures_at, row_at}
 use Rattle.segment_file.specs.declared.slave_row.SlaveRow.{SlaveRow}
 use Rattle.lost_step.specs.Rounds.{takes_part}

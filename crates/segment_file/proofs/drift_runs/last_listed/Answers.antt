@@ -3,8 +3,8 @@ use Rattle.std.proofs.Common.{arith, rules, subst}
 use Rattle.std.specs.List.{All}
 use Rattle.std.proofs.lemmas.List.{take_all}
 use Rattle.std.proofs.lemmas.List.Elements.{All-more, All-weaker}
-use Rattle.segment_shape.specs.declared.loss_row.Phase.TheVariants.{Commission}
-use Rattle.segment_shape.specs.declared.loss_row.LossRow.{LossRow}
+use Rattle.loss_list.specs.declared.loss_row.Phase.TheVariants.{Commission}
+use Rattle.loss_list.specs.declared.loss_row.LossRow.{LossRow}
 use Rattle.segment_file.proofs.drift_runs.last_listed.Goals as goal
 
 pub loop-row-preserved : goal.loop-row-preserved

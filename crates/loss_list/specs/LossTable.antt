@@ -1,9 +1,9 @@
 -- A table of the losses, by phase and number.
 use Rattle.std.specs.Prelude.{◌≡◌, ℕ, ◌+◌, ◌*◌, ◌≤◌, Option, None, List, slice_index_or}
-use Rattle.segment_shape.specs.Losses.{loss_at}
-use Rattle.segment_shape.specs.declared.loss_row.Phase.{Phase}
-use Rattle.segment_shape.specs.declared.loss_row.Phase.TheVariants.{Commission, Drift}
-use Rattle.segment_shape.specs.declared.loss_row.LossRow.{LossRow}
+use Rattle.loss_list.specs.Losses.{loss_at}
+use Rattle.loss_list.specs.declared.loss_row.Phase.{Phase}
+use Rattle.loss_list.specs.declared.loss_row.Phase.TheVariants.{Commission, Drift}
+use Rattle.loss_list.specs.declared.loss_row.LossRow.{LossRow}
 
 -- the greatest number of a lost frame
 abbrev pub last_number : ℕ

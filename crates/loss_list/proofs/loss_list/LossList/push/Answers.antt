@@ -1,10 +1,10 @@
 use Rattle.std.proofs.Common.{◌≡◌, ◌∙◌, Some, sym, ap, subst}
 use Rattle.std.specs.Prelude.{slice_set}
 use Rattle.std.specs.Option.{option_or}
-use Rattle.segment_shape.specs.Losses.{loss_at}
-use Rattle.segment_shape.specs.LossTable.{IsTable, table_place}
-use Rattle.segment_shape.proofs.LossLemmas.{pushed_table}
-use Rattle.segment_shape.proofs.loss_list.LossList.push.Goals as goal
+use Rattle.loss_list.specs.Losses.{loss_at}
+use Rattle.loss_list.specs.LossTable.{IsTable, table_place}
+use Rattle.loss_list.proofs.LossLemmas.{pushed_table}
+use Rattle.loss_list.proofs.loss_list.LossList.push.Goals as goal
 
 pub invariant_of-self-2 : goal.invariant_of-self-2
 invariant_of-self-2 c =

@@ -8,11 +8,11 @@ use Rattle.std.proofs.lemmas.Grind.{get_or-set_at}
 use Rattle.std.proofs.lemmas.List.{get_or-set_other}
 use Rattle.std.proofs.lemmas.List.Elements.{All-head, All-tail}
 use Rattle.std.proofs.lemmas.List.Folds.{find-append}
-use Rattle.segment_shape.specs.Losses.{is_same_phase, is_loss_of, is_listed, loss_at}
-use Rattle.segment_shape.specs.LossTable.{IsNumber, IsTable, table_place}
-use Rattle.segment_shape.specs.declared.loss_row.Phase.{Phase}
-use Rattle.segment_shape.specs.declared.loss_row.Phase.TheVariants.{Commission, Drift}
-use Rattle.segment_shape.specs.declared.loss_row.LossRow.{LossRow}
+use Rattle.loss_list.specs.Losses.{is_same_phase, is_loss_of, is_listed, loss_at}
+use Rattle.loss_list.specs.LossTable.{IsNumber, IsTable, table_place}
+use Rattle.loss_list.specs.declared.loss_row.Phase.{Phase}
+use Rattle.loss_list.specs.declared.loss_row.Phase.TheVariants.{Commission, Drift}
+use Rattle.loss_list.specs.declared.loss_row.LossRow.{LossRow}
 
 neither : (a b : Bool) → (a || b) ≡ false → (a ≡ false) × (b ≡ false)
 neither true b e = absurd (cc e)

@@ -1,6 +1,6 @@
 ghost use Rattle.std.specs.Prelude.{ℕ, ◌≡◌, ◌≤◌, ◌<◌, ◌^◌, ◌++◌, ◌∷◌, [], None, IfOk, OnErr, OnOk, length, slice_index_or};
-ghost use Rattle.segment_shape.specs.Losses.{is_listed, loss_at};
-ghost use Rattle.segment_shape.specs.LossTable.{table_place};
+ghost use Rattle.loss_list.specs.Losses.{is_listed, loss_at};
+ghost use Rattle.loss_list.specs.LossTable.{table_place};
 
 use crate::loss_row::{LossRow, Phase};
 use std::alloc::{AllocError, Global};
@@ -16,11 +16,11 @@ pub struct LossList {
 
 impl Model for LossList {
     ghost use Rattle.std.specs.Prelude.{List};
-    ghost use Rattle.segment_shape.specs.declared.loss_row.LossRow.{LossRow};
+    ghost use Rattle.loss_list.specs.declared.loss_row.LossRow.{LossRow};
 
     ghost Value = { List LossRow };
 
-    ghost use Rattle.segment_shape.specs.InsideLosses.{rows_of, IsKept};
+    ghost use Rattle.loss_list.specs.InsideLosses.{rows_of, IsKept};
 
     ghost view = { rows_of };
 
@@ -60,7 +60,7 @@ impl LossList {
         Ok(LossList { rows, table })
     }
 
-    /// Puts a loss at the end. Want of memory alone refuses it.
+    /// Puts a loss at the end. It is refused where memory runs out, and only there.
     pub fn push(&mut self, row: LossRow) -> Result<(), AllocError>
         requires { (1 ≤ row.number) × (row.number ≤ 100000) }
         ensures ok { OnOk result (self.new ≡ self.old ++ row ∷ []) }
@@ -81,7 +81,8 @@ impl LossList {
         self.after(phase, number).is_some()
     }
 
-    pub(crate) fn len(&self) -> usize
+    /// How many losses are listed.
+    pub fn len(&self) -> usize
         ensures { result ≡ length self.now }
     {
         self.rows.len()

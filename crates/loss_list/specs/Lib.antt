@@ -1,0 +1,3 @@
+pub mod Losses
+pub mod LossTable
+pub mod InsideLosses
