@@ -6,7 +6,7 @@
 # of 1 ms, so that each has one. The best wall clock of five runs counts.
 set -eu
 here=$(cd "$(dirname "${BASH_SOURCE[0]}")" && pwd)
-program=$here/../crates/bench_work/out/bench_work
+program=$here/../crates/measured_work/out/measured_work
 [ -x "$program" ] || { echo "bench: .ci/run leaves the proved program that this measures" >&2; exit 1; }
 
 # The wall clock of a run of the program, in microseconds.

@@ -1,4 +1,4 @@
-//! The work that the scripts in `bench/` time.
+//! The work that the scripts in `measure/` time.
 //!
 //! - `advance FS TIMES` advances so many clocks from true time 0 by so many fs, while each works off a
 //!   difference, and writes the sum of what they show.

@@ -2,7 +2,7 @@
 # Measures `dc check` on inputs of 16 MiB, the most that it reads, that are made to be slow or large: keys and numbers without end,
 # deep nesting, the most slaves, rates and losses. Each must be answered rightly within two seconds and 256 MiB. Of some inputs the value
 # that `serde_json` makes takes more than that by itself; they are marked `value`, and their memory is shown and not judged. Prints a table
-# and ends with 1 where an input is over. `bench/check.sh PROGRAM` measures another program.
+# and ends with 1 where an input is over. `measure/check.sh PROGRAM` measures another program.
 set -eu
 here=$(cd "$(dirname "${BASH_SOURCE[0]}")" && pwd)
 program=${1:-$here/../crates/dc_cli/out/dc_cli}

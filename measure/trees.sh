@@ -3,7 +3,7 @@
 # children to a slave. The best wall clock of five runs counts.
 set -eu
 here=$(cd "$(dirname "${BASH_SOURCE[0]}")" && pwd)
-program=$here/../crates/bench_work/out/bench_work
+program=$here/../crates/measured_work/out/measured_work
 [ -x "$program" ] || { echo "bench: .ci/run leaves the proved program that this measures" >&2; exit 1; }
 
 best=

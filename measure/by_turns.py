@@ -25,7 +25,7 @@ def done(program, words, path, output):
         _, status, usage = os.wait4(child.pid, 0)
         seconds = time.monotonic() - start
     if status != 0:
-        sys.exit(f'bench: {program} {" ".join(words)} ended with {os.waitstatus_to_exitcode(status)}')
+        sys.exit(f'measure: {program} {" ".join(words)} ended with {os.waitstatus_to_exitcode(status)}')
     return seconds, usage.ru_maxrss / 1024
 
 
@@ -41,7 +41,7 @@ def measure(programs, folder):
                 least[k] = seconds if least[k] is None else min(least[k], seconds)
                 memory = max(memory, most) if k == 0 else memory
             if not all(filecmp.cmp(outputs[0], output, shallow=False) for output in outputs):
-                sys.exit(f'bench: {work["name"]}: the programs do not write the same')
+                sys.exit(f'measure: {work["name"]}: the programs do not write the same')
         shown = f'{work["name"]:52} {least[0]:8.4f} s {memory:6.1f} MiB'
         if len(programs) > 1:
             shown += f'   other {least[1]:8.4f} s   {least[0] / least[1]:4.2f} times'
