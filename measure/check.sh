@@ -6,8 +6,8 @@
 set -eu
 here=$(cd "$(dirname "${BASH_SOURCE[0]}")" && pwd)
 program=${1:-$here/../crates/dc_cli/out/dc_cli}
-[ -x "$program" ] || { echo "bench: .ci/run leaves the proved program that this measures" >&2; exit 1; }
-command -v python3 > /dev/null || { echo "bench: python3 makes the inputs" >&2; exit 1; }
+[ -x "$program" ] || { echo "measure: .ci/run leaves the proved program that this measures" >&2; exit 1; }
+command -v python3 > /dev/null || { echo "measure: python3 makes the inputs" >&2; exit 1; }
 
 most_seconds=2
 most_kib=262144

@@ -8,7 +8,7 @@
 set -eu
 here=$(cd "$(dirname "${BASH_SOURCE[0]}")" && pwd)
 program=$here/../crates/frame_cases/out/frame_cases
-[ -x "$program" ] || { echo "bench: .ci/run leaves the proved program that this measures" >&2; exit 1; }
+[ -x "$program" ] || { echo "measure: .ci/run leaves the proved program that this measures" >&2; exit 1; }
 other=${1:-}
 dir=$(mktemp -d)
 trap 'rm -rf "$dir"' EXIT
