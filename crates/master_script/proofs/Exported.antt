@@ -24,6 +24,8 @@ pub use Rattle.master_script.proofs.Within.{hung_length, judged_below, StepWithi
 pub use Rattle.master_script.proofs.Wants.{phase_of, wants, wanted_drift, wanted_other}
 -- What a judgement says of a reply.
 pub use Rattle.master_script.proofs.Replies.{reply_told, counter_told}
+-- A judgement is that of the reply, told of a step.
+pub use Rattle.master_script.proofs.Faults.{judged_by_fault}
 -- What a master keeps stays kept.
 pub use Rattle.master_script.proofs.Staying.{stays_kept}
 -- What a stage says of the rest that is kept.

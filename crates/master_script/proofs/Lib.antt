@@ -16,6 +16,7 @@ mod Staying
 mod Stages
 mod Worked
 mod Judging
+mod Faults
 mod Sendings
 mod Calls
 pub mod Exported
