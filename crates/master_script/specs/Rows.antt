@@ -8,7 +8,7 @@ use Rattle.ecat_link.specs.Exchanges.{Exchange}
 use Rattle.dc_delay.specs.declared.kind.Kind.{Kind}
 use Rattle.master_script.specs.declared.plan.SyncPlan.{SyncPlan}
 use Rattle.master_script.specs.Config.{ConfigValue}
-use Rattle.master_script.specs.Frames.{count_datagrams, identify_datagrams, rate_datagrams, latch_datagrams, times_datagrams, set_datagrams, drift_datagrams}
+use Rattle.master_script.specs.Frames.{station, count_datagrams, identify_datagrams, rate_datagrams, latch_datagrams, times_datagrams, set_datagrams, drift_datagrams}
 use Rattle.ecat_frame.specs.Built.{built}
 
 -- the configuration
@@ -50,7 +50,7 @@ counts n = came count_datagrams ((0 ∷ [], n) ∷ [])
 abbrev pub tells : ℕ → ℕ → ℕ → ℕ → Exchange
 tells p features status fourth =
     came (identify_datagrams p)
-    ((little_bytes 2 (0x1001 + p), 1) ∷ (little_bytes 2 features, 1) ∷ (little_bytes 2 status, 1) ∷ (replicate 4 0, fourth) ∷ [])
+    ((little_bytes 2 (station p), 1) ∷ (little_bytes 2 features, 1) ∷ (little_bytes 2 status, 1) ∷ (replicate 4 0, fourth) ∷ [])
 
 -- Identify of a clock of 64 bits with this DL status
 abbrev pub identifies : ℕ → ℕ → Exchange
