@@ -30,10 +30,10 @@ goes_on (Run edges) = true
 goes_on Drill = true
 
 -- what is written of it
-abbrev pub text_of : Report → SegmentValue → BenchState → List ℕ
-text_of Delays s b = table_text s b
-text_of (Run edges) s b = report_text s b edges
-text_of Drill s b = drill_text s b
+abbrev pub text_of_report : Report → SegmentValue → BenchState → List ℕ
+text_of_report Delays s b = table_text s b
+text_of_report (Run edges) s b = report_text s b edges
+text_of_report Drill s b = drill_text s b
 
 -- A bench has made the run of this segment, of which no step loses its three tries, and the text is what is written of it. Each clock has
 -- a delay, which lies within the delay bound of the true one; the frames that were sent are as many as the file tells, and few.
@@ -44,7 +44,7 @@ pub record IsReportOf (report : Report) (segment : SegmentValue) (text : List �
   pub near : AreNear segment bench.master.delays
   pub sends : Sends report segment bench
   pub few : bench.master.sent ≤ 100000
-  pub written : text ≡ text_of report segment bench
+  pub written : text ≡ text_of_report report segment bench
 
 abbrev pub IsReport : Report → SegmentValue → List ℕ → Option BenchState → Type 0
 IsReport report s text None = ⊥

@@ -121,14 +121,14 @@ fn serve<O: Sink>(
     ensures fault { result ≡ WriteFault → Rose (O.faults output.old) (O.faults output.new) }
     ensures later { O.faults output.old ≤ O.faults output.new }
 {
-    match text_of(alloc, command, bytes, bench) {
+    match command_text(alloc, command, bytes, bench) {
         Ok(text) => write(output, &text),
         Err(outcome) => outcome,
     }
 }
 
 // The text of a command over the whole input, or the answer where nothing is written: a row for each command.
-fn text_of(
+fn command_text(
     alloc: Global,
     command: Command,
     bytes: &[u8],
