@@ -1,4 +1,5 @@
-//! Laws over the definitions alone, for proofs of the layers above. They speak of any legal segment.
+//! What stays in the slaves of a legal segment after commissioning, what commissioning has left there, and what drift
+//! frames bring.
 
 ghost use Rattle.std.specs.Prelude.{◌≡◌, ℕ, Some, ◌≢◌, ◌+◌, ◌<◌, ◌≤◌, [], ◌∷◌, true, length, slice_get, if◌then◌else◌, ◌%◌, ◌^◌};
 ghost use Rattle.copy_law.specs.Untouched.{AreLasting, CorrectAlike, HoldAlike, IsUntouched, WriteNone};
@@ -39,7 +40,7 @@ pub fn drift_frames_write_little()
     ensures receive_times { (at n : ℕ) → IsReceiveTime at n → IsUntouched at n }
 {}
 
-/// Behind commissioning, to the end of each later phase and of the whole run, each slave of a legal segment holds what it then held in its
+/// After commissioning, to the end of each later phase and of the whole run, each slave of a legal segment holds what it then held in its
 /// receive times, and in the registers that no drift frame writes and that it does not set itself, as the offset, the delay and the speed.
 pub fn registers_stay()
     ensures settled { (s : SegmentValue) (first run : RunEnd) (at n : ℕ) → IsLegal s → commissioned s ≡ Some first → settled s ≡ Some run
@@ -55,7 +56,7 @@ pub fn registers_stay()
     ensures speed { AreLasting 0x0930 2 }
 {}
 
-/// Behind commissioning, to the end of each later phase and of the whole run, the clock of each slave takes as many ticks to a correction
+/// After commissioning, to the end of each later phase and of the whole run, the clock of each slave takes as many ticks to a correction
 /// (g, by the speed at 0x0930) as it then took.
 pub fn corrections_stay()
     ensures settled { (s : SegmentValue) (first run : RunEnd) → IsLegal s → commissioned s ≡ Some first → settled s ≡ Some run
@@ -68,25 +69,8 @@ pub fn corrections_stay()
         → CorrectAlike first.state.slaves run.state.slaves }
 {}
 
-/// In the run of a file a clock other than the reference receives a difference from drift frame k exactly where that frame comes to it: the
-/// file does not list k among the drift frames, or lists it as lost behind the clock's position. It receives it at C + k frame periods and
-/// the frame's way to the clock, and it is the difference of two system times, of which the low halves count: the clock's then, and the
-/// reference's when the frame arrived there. No other slave receives anything. So of `loss_run` + 1 drift frames in a row each such clock
-/// receives from one, and behind the reference it stands in frame order.
-pub fn drift_frames_bring_times()
-    ensures sent { (s : SegmentValue) (k : ℕ) (t : SegmentState) (e : Exchange) → IsLegal s → (frame : IsDriftFrame s k t e)
-        → leaves_at t e.wait_ns ≡ sent_at s frame.first k }
-    ensures receipts { (s : SegmentValue) (k p r : ℕ) (t : SegmentState) (e : Exchange) (v reference : Slave) → IsLegal s
-        → (frame : IsDriftFrame s k t e) → IsReference s r
-        → slice_get t.slaves p ≡ Some v → slice_get t.slaves r ≡ Some reference
-        → brought t e p v ≡ (if receives s r k p then receipt (sent_at s frame.first k) v reference ∷ [] else []) }
-    ensures often { (s : SegmentValue) (first p r : ℕ) → IsLegal s → has_clock (kind_at s p) ≡ true → p ≢ r
-        → (k : ℕ) × (first ≤ k) × (k ≤ first + s.head.loss_run) × (receives s r k p ≡ true) }
-    ensures behind { (s : SegmentValue) (p r : ℕ) → IsLegal s → IsReference s r → p < length s.rows → has_clock (kind_at s p) ≡ true → p ≢ r → r < p }
-{}
-
 /// Where commissioning ends with Ok, each clock holds the offset and the measured delay that the master computes from the receive
-/// times that it was told, and every other slave holds 0 and 0, as all did at the start. So it stays behind each later phase, and
+/// times that it was told, and every other slave holds 0 and 0, as all did at the start. So it stays after each later phase, and
 /// to the end of the run, however that ends.
 pub fn offsets_are_set()
     ensures start { (s : SegmentValue) (p : ℕ) (v : Slave) → IsLegal s → slice_get (started_segment s).slaves p ≡ Some v → HoldsSet 0 0 v.registers }
@@ -107,7 +91,7 @@ pub fn offsets_come_of_readings()
     ensures reference { (s : SegmentValue) (run : RunEnd) (r : ℕ) → IsCommissioned s run → (words_after s run).reference ≡ Some r → delay_at (master_of s) (words_after s run) r ≡ 0 }
 {}
 
-/// Behind commissioning, and as long as no frame brings a clock anything, its local copy is the epoch, its measured delay, and 10 ns
+/// After commissioning, and as long as no frame brings a clock anything, its local copy is the epoch, its measured delay, and 10 ns
 /// for each of its ticks since the Latch that came back arrived at it. Its system time is the same without the delay. Both are words
 /// of the clock's width.
 pub fn system_times_begin_at_the_epoch()
@@ -117,4 +101,21 @@ pub fn system_times_begin_at_the_epoch()
     ensures time { (s : SegmentValue) (run : RunEnd) (p : ℕ) (v : Slave) (m : Timing) (t : ℕ) → IsCommissioned s run → IsSinceLatch s run p v m t
         → system_time (measuring_at t (record { registers = v.registers; timing = m }))
         ≡ (s.head.epoch_ns + counted_ns s (words_after s run) p t) % 2 ^ width (row_there s p).kind }
+{}
+
+/// In the run of a file a clock other than the reference receives a difference from drift frame k exactly where that frame comes to it: the
+/// file does not list k among the drift frames, or lists it as lost behind the clock's position. It receives it at C + k frame periods and
+/// the frame's way to the clock, and it is the difference of two system times, of which the low halves count: the clock's then, and the
+/// reference's when the frame arrived there. No other slave receives anything. So of `loss_run` + 1 drift frames in a row each such clock
+/// receives from one, and it comes after the reference in frame order.
+pub fn drift_frames_bring_times()
+    ensures sent { (s : SegmentValue) (k : ℕ) (t : SegmentState) (e : Exchange) → IsLegal s → (frame : IsDriftFrame s k t e)
+        → leaves_at t e.wait_ns ≡ sent_at s frame.first k }
+    ensures receipts { (s : SegmentValue) (k p r : ℕ) (t : SegmentState) (e : Exchange) (v reference : Slave) → IsLegal s
+        → (frame : IsDriftFrame s k t e) → IsReference s r
+        → slice_get t.slaves p ≡ Some v → slice_get t.slaves r ≡ Some reference
+        → brought t e p v ≡ (if receives s r k p then receipt (sent_at s frame.first k) v reference ∷ [] else []) }
+    ensures often { (s : SegmentValue) (first p r : ℕ) → IsLegal s → has_clock (kind_at s p) ≡ true → p ≢ r
+        → (k : ℕ) × (first ≤ k) × (k ≤ first + s.head.loss_run) × (receives s r k p ≡ true) }
+    ensures behind { (s : SegmentValue) (p r : ℕ) → IsLegal s → IsReference s r → p < length s.rows → has_clock (kind_at s p) ≡ true → p ≢ r → r < p }
 {}

@@ -1,15 +1,27 @@
-//! What the frames behind commissioning write: the system time, and of a clock that is armed its SYNC unit. So the offsets, the delays,
-//! the speeds and the receive times of all slaves stay as commissioning left them, and so do the ticks that their clocks take to a
-//! correction. Laws, and no code.
+//! The clocks of a run after commissioning: what they hold, what they show, and what drift frames bring them. Laws
+//! about definitions; there is nothing to run here.
 //!
-//! What the drift frames of a run bring the clocks of its segment: every clock but the reference the difference of its system time and the
-//! reference's, both at the frame's own arrival, and all other slaves nothing. Laws, and no code.
+//! They speak of the run of any legal file, refused later or not, and are read in this order.
 //!
-//! What commissioning leaves in the slaves of a legal file. There is nothing to run here.
+//! **What stays.** Every frame after commissioning is a drift frame. It writes the system time (ESC data sheet,
+//! 0x0910), and the registers that arm a SYNC unit, and nothing else ([`laws::drift_frames_write_little`]). So
+//! offsets, delays, speeds and receive times stay as commissioning left them ([`laws::registers_stay`]), and each
+//! clock takes as many ticks to a correction as then ([`laws::corrections_stay`]).
 //!
-//! Set writes a clock its offset and its delay (ESC data sheet, 0x0920 and 0x0928), and no other frame of a master writes
-//! these registers. So each clock holds, from the end of commissioning on, the offset that follows from the receive time
-//! that it latched, and its measured delay; a slave that is no clock holds 0 in both.
+//! **What commissioning leaves.** Set writes a clock its offset and its delay (0x0920 and 0x0928), and no other frame
+//! of a master writes these. So where commissioning ends with Ok, each clock holds what the master has computed from
+//! the receive times that it was told, and every other slave 0 and 0, to the end of the run
+//! ([`laws::offsets_are_set`]). The offset is the epoch and the delay, less what the clock showed when the Latch that
+//! came back arrived ([`laws::offsets_come_of_readings`]). Until a frame brings the clock anything, its system time
+//! is therefore the epoch, and 10 ns for each of its ticks since that arrival
+//! ([`laws::system_times_begin_at_the_epoch`]).
+//!
+//! **What drift frames bring.** Each drift frame that comes to a clock which is not the reference brings it the
+//! difference of two system times: its own and the reference's, each at the frame's arrival there. It brings no
+//! other slave anything, and of `loss_run` + 1 in a row one comes to each such clock
+//! ([`laws::drift_frames_bring_times`]).
+//!
+//! That the copies of the clocks then stay near is not proved yet; these laws are what a proof of it begins with.
 #![tactic(auto)]
 
 pub mod laws;

@@ -25,6 +25,7 @@ use std::marker::Model;
 /// A master of distributed clocks. Its calls come in the order of its stages: [`commission`](Self::commission),
 /// [`settle`](Self::settle), [`arm`](Self::arm) and [`run`](Self::run), each with the link that it is given.
 /// After a refusal nothing is sent any more, and each call answers `Spent` with that refusal.
+/// [`Stage`] draws the calls with their steps.
 #[derive(Debug, Drop)]
 pub struct Master {
     config: Config,

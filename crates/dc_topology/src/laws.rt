@@ -1,6 +1,5 @@
-//! Laws over the definitions alone, for proofs of the layers above. Where they speak of the whole tree, their
-//! premises are that the rows are a tree and that each is a row that [`TreeRow::new`](cable_tree::TreeRow::new)
-//! makes.
+//! What the slaves of a tree show, and that it lists the tree. A law about the whole tree asks that the rows are
+//! a tree, and that each is a row that [`TreeRow::new`](cable_tree::TreeRow::new) makes.
 
 ghost use Rattle.std.specs.Prelude.{◌≡◌, ℕ, ◌+◌, ◌*◌, ◌<◌, true, false, not, List, length};
 ghost use Rattle.std.specs.List.{All};

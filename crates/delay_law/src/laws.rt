@@ -1,4 +1,4 @@
-//! Laws over the definitions alone, for proofs of the layers above.
+//! From one frame over clocks that correct nothing, over the commissioning of a legal segment, to its delays.
 
 ghost use Rattle.std.specs.Prelude.{ℕ, List, ◌≡◌, Some, slice_get, Option, None, Ok};
 ghost use Rattle.cable_tree.specs.Row.{Row};
@@ -20,13 +20,6 @@ ghost use Rattle.run_of_file.specs.Commissioned.{IsCommissioned, words_after};
 ghost use Rattle.run_of_file.specs.RunOfFile.{RunEnd, commissioned, master_after, run_of};
 ghost use Rattle.delay_law.specs.ToldTimes.{AreTold, latch_sent};
 ghost use Rattle.delay_law.specs.NearDelays.{AreNear};
-
-/// A clock with nothing left to correct counts 10 ns a tick, whatever its count and its width. So the low words
-/// that it shows when a frame arrives at its slave, and when the frame comes back into a port, are readings of a
-/// clock that does not correct.
-pub fn clocks_at_rest_latch()
-    ensures { (rows : List Row) (ppm r : ℕ) (laps : ℕ → Port → ℕ) → AreLatchedAtRest rows ppm r laps → AreOfClock rows ppm r laps }
-{}
 
 /// A segment stays that of its file, whatever frames are sent.
 pub fn segments_stay()
@@ -66,7 +59,14 @@ pub fn times_of_the_latch()
         → v.visits ≡ visits_of (tree_rows s.rows) (row_at s p) }
 {}
 
-/// Once commissioning has ended with Ok, each measured delay lies within the delay bound of the true one: behind it, and at the
+/// A clock with nothing left to correct counts 10 ns a tick, whatever its count and its width. So the low words
+/// that it shows when a frame arrives at its slave, and when the frame comes back into a port, are readings of a
+/// clock that does not correct.
+pub fn clocks_at_rest_latch()
+    ensures { (rows : List Row) (ppm r : ℕ) (laps : ℕ → Port → ℕ) → AreLatchedAtRest rows ppm r laps → AreOfClock rows ppm r laps }
+{}
+
+/// Once commissioning has ended with Ok, each measured delay lies within the delay bound of the true one: after it, and at the
 /// end of the run, however that ends.
 pub fn delays_are_near()
     ensures commissioned { (s : SegmentValue) (run : RunEnd) → IsLegal s → commissioned s ≡ Some run → run.answer ≡ Ok tt → AreNear s (master_after s None run.exchanges).delays }

@@ -1,5 +1,29 @@
 -- A frame on its way through the slaves. That the delays are fixed, and that ports latch at their own instants, is this
 -- project's rule.
+--
+-- A line of three slaves, B at port 1 of A and C at port 1 of B; time goes down. cA, cB, cC are the cables, one way. Out, a
+-- slave keeps the frame for tP, its way through the processing unit; back, for tF at each forwarding.
+--
+--   master            A                    B                    C
+--     |----- cA ----->* arrive             .                    .
+--     .               | tP                 .                    .
+--     .               |------- cB -------->* arrive             .
+--     .               .                    | tP                 .
+--     .               .                    |------- cC -------->* arrive
+--     .               .                    .                    | tP
+--     .               .                    o<------ cC ---------|
+--     .               .                    | back1, tF          .
+--     .               o<------ cB ---------|                    .
+--     .               | back1, tF          .                    .
+--     |<---- cA ------|                    .                    .
+--
+-- * The datagrams act, one after another. Where one of them latches, 0x0900 and 0x0918 take the local time here.
+-- o Where one of them has latched, the register of the port (here 0x0904) takes the local time here.
+-- A slave with more children forwards the frame to the next connected port, in the order 3, 1, 2, and so on; tF each time.
+-- A frame that is lost on its way to a slave ends at the arrival there: no visit at that time or later takes place.
+--
+-- examples/two-slaves.json, ns: cA = 20, cB = 50, tP = 310, tF = 300, and no C, so that B sends the frame back after its tP.
+-- It arrives at A at 20, at B at 20 + 310 + 50 = 380; back1 of A is 380 + 310 + 50 = 740; the round trip 740 + 300 + 20 = 1060.
 use Rattle.std.specs.Prelude.{ℕ, suc, zero, ◌+◌, ◌%◌, ◌^◌, ◌||◌, nat_lt, Bool, true, false, List, [], ◌∷◌, Option, Some, None, option_map, slice_get, if◌then◌else◌}
 use Rattle.ecat_frame.specs.FrameGrammar.{DatagramValue}
 use Rattle.frame_pass.specs.SlaveState.{Measuring, Slave, on_measuring, holding}

@@ -1,4 +1,5 @@
-//! Laws over the definitions alone, for proofs of the layers above.
+//! From one datagram up to the run of a legal segment: what slaves keep, who answers, which replies the script gets, why a
+//! phase is refused, and which signals are armed.
 
 ghost use Rattle.std.specs.Prelude.{◌≡◌, ◌⊎◌, ℕ, Bool, suc, ◌+◌, ◌<◌, ◌≤◌, List, ◌∷◌, length, true, false, Some, slice_get, take, nat_lt, [], None, map, filter, Ok, Err, slice_index_or};
 ghost use Rattle.std.specs.List.{sum_by};
@@ -101,7 +102,7 @@ pub fn frames_are_mindful()
 {}
 
 /// A frame that comes back of slaves at their positions has the counters that the master expects: Count whoever is named, and
-/// each step behind the judgement where all are.
+/// each step after the judgement where all are.
 pub fn counters_are_expected()
     ensures count { (kinds : ℕ → ClockKind) (statuses : ℕ → ℕ) (n named sent : ℕ) (ss : List Slave) → AreInOrder kinds statuses n named ss
         → counts_of (datagrams_behind (length ss) sent ss count_datagrams) ≡ n ∷ [] }
@@ -169,7 +170,7 @@ pub fn activations_are_planned()
 {}
 
 /// In the run of a legal segment each slave keeps to the signals that it has by the file: its unit is armed with no other,
-/// and each edge that it keeps is of one of them. So it is from the start on, behind each phase, and at the end.
+/// and each edge that it keeps is of one of them. So it is from the start on, after each phase, and at the end.
 pub fn signals_are_those_of_the_file()
     ensures start { (s : SegmentValue) → AllKeepTo (signals_at s) (started_segment s).slaves }
     ensures commissioned { (s : SegmentValue) (run : RunEnd) → IsLegal s → commissioned s ≡ Some run → AllKeepTo (signals_at s) run.state.slaves }

@@ -1,4 +1,5 @@
-//! Laws over the definitions alone, for proofs of the layers above. They speak of any legal segment.
+//! From the number of one frame up to the count of a whole run. The laws on tries ask for no file; all others speak of
+//! any legal segment.
 
 ghost use Rattle.std.specs.Prelude.{List, Some, ◌≡◌, ℕ, ◌+◌, Bool, ◌∷◌, None, is_none, ◌*◌, ◌≤◌, ◌++◌, length, Ok, Err, true, false, map, [], Option};
 ghost use Rattle.ecat_link.specs.Exchanges.{Exchange, Runs, lost_among};
@@ -40,28 +41,9 @@ pub fn segments_keep_step()
         → StandsAfter s (progress (master_of s) es).sent (progress (master_of s) es).drifts t }
 {}
 
-/// Commissioning stands where the commission frames that are lost leave it, at its begin and behind each exchange: at a try of a step, past
-/// all steps, or refused with the step whose three tries are lost.
-pub fn commissioning_follows_losses()
-    ensures begins { (lost : ℕ → Bool) (cfg : ConfigValue) → Stands lost cfg (beginning cfg) }
-    ensures next { (lost : ℕ → Bool) (cfg : ConfigValue) (p : Progress) (e : Exchange) (step : Step) (rest : List Step) → p.refused ≡ None
-        → p.phase ≡ Commissioning
-        → p.todo ≡ step ∷ rest → Asks lost cfg p → lost (p.sent + 1) ≡ is_none e.back → Stands lost cfg (after cfg p e) }
-{}
-
-/// Settling knows the reference's time behind each exchange, or all its drift frames were lost.
-pub fn settling_follows_losses()
-    ensures next { (lost : ℕ → Bool) (cfg : ConfigValue) (slaves : List SlaveWords) (p : Progress) (e : Exchange) → p.refused ≡ None
-        → p.phase ≡ Settling
-        → Settles lost cfg slaves p → lost (p.drifts + 1) ≡ is_none e.back → StandsSettling lost cfg slaves (after cfg p e) }
-{}
-
-/// Arming stands where the drift frames that are lost leave it, behind each exchange: at a try of a step, past all steps, or refused with
-/// the step whose three tries are lost.
-pub fn arming_follows_losses()
-    ensures next { (lost : ℕ → Bool) (begin : ℕ) (all : List Step) (cfg : ConfigValue) (p : Progress) (e : Exchange) (step : Step) (rest : List Step) → p.refused ≡ None
-        → p.phase ≡ Arming → p.todo ≡ step ∷ rest → Reached lost begin all p.todo (p.drifts + 1) p.tries → lost (p.drifts + 1) ≡ is_none e.back
-        → StandsArming lost begin all (after cfg p e) }
+/// Of m + 1 drift numbers in a row one is not listed as lost, so its frame comes back.
+pub fn drift_frames_come()
+    ensures { (s : SegmentValue) (first : ℕ) → IsLegal s → (number : ℕ) × (first ≤ number) × (number ≤ first + s.head.loss_run) × (loses s phase.Drift number ≡ false) }
 {}
 
 /// In a legal segment the positions of the slaves that measure, and of the clocks, are as many as their rows.
@@ -76,7 +58,7 @@ pub fn steps_are_counted()
     ensures arming { (s : SegmentValue) → IsLegal s → length (arm_steps s) ≡ clocks s.rows }
 {}
 
-/// Exchanges that all come back use one to three numbers each: one for the try that comes, and one for each that is lost. Those behind
+/// Exchanges that all come back use one to three numbers each: one for the try that comes, and one for each that is lost. Those after
 /// them begin at the next number. Where an exchange does not come back, all before it do, and its three tries are lost.
 pub fn exchanges_use_numbers()
     ensures few { (lost : ℕ → Bool) (a b : ℕ) (steps : List Step) → asked lost a steps ≡ Ok b → (a + length steps ≤ b) × (b ≤ a + 3 * length steps) }
@@ -87,48 +69,52 @@ pub fn exchanges_use_numbers()
     ensures lost { (lost : ℕ → Bool) (a : ℕ) (steps : List Step) (step : Step) → asked lost a steps ≡ Err step → IsLostAt lost a steps step }
 {}
 
-/// Where replies are honest, the list of losses alone tells how each phase ends: it is refused with the first step of commissioning, or
-/// behind it of arming, that loses its three tries, and else it goes well.
-pub fn answers_follow_losses()
-    ensures commissioned { (s : SegmentValue) (run : RunEnd) → IsLegal s → HasHonestReplies s → commissioned s ≡ Some run
-        → run.answer ≡ answer_for (lost_step_of s false) }
-    ensures settled { (s : SegmentValue) (run : RunEnd) → IsLegal s → HasHonestReplies s → settled s ≡ Some run
-        → run.answer ≡ answer_for (lost_step_of s false) }
-    ensures armed { (s : SegmentValue) (run : RunEnd) → IsLegal s → HasHonestReplies s → armed s ≡ Some run
-        → run.answer ≡ answer_for (lost_step_of s true) }
-    ensures ran { (s : SegmentValue) (run : RunEnd) → IsLegal s → HasHonestReplies s → ran s ≡ Some run
-        → run.answer ≡ answer_for (lost_step_of s true) }
+/// Commissioning stands where the commission frames that are lost leave it, at its start and after each exchange: at a try of a step, past
+/// all steps, or refused with the step whose three tries are lost.
+pub fn commissioning_follows_losses()
+    ensures begins { (lost : ℕ → Bool) (cfg : ConfigValue) → Stands lost cfg (beginning cfg) }
+    ensures next { (lost : ℕ → Bool) (cfg : ConfigValue) (p : Progress) (e : Exchange) (step : Step) (rest : List Step) → p.refused ≡ None
+        → p.phase ≡ Commissioning
+        → p.todo ≡ step ∷ rest → Asks lost cfg p → lost (p.sent + 1) ≡ is_none e.back → Stands lost cfg (after cfg p e) }
 {}
 
-/// Where replies are honest, a phase that ends with Ok has sent so many frames: commissioning and arming one to three for each of their
-/// exchanges, settling K + m + 1, and running as many as it is given.
-pub fn honest_phases_send_so_many()
-    ensures commissioned { (s : SegmentValue) (run : RunEnd) → IsLegal s → HasHonestReplies s → commissioned s ≡ Some run → run.answer ≡ Ok tt
-        → (length (commission_steps s) ≤ length run.exchanges) × (length run.exchanges ≤ 3 * length (commission_steps s)) }
-    ensures settled { (s : SegmentValue) (first run : RunEnd) → IsLegal s → HasHonestReplies s → commissioned s ≡ Some first
-        → settled s ≡ Some run → run.answer ≡ Ok tt
-        → length run.exchanges ≡ length first.exchanges + settle_frames (master_of s) }
-    ensures armed { (s : SegmentValue) (first run : RunEnd) → IsLegal s → HasHonestReplies s → settled s ≡ Some first → armed s ≡ Some run
-        → run.answer ≡ Ok tt
-        → (length first.exchanges + length (clock_positions s) ≤ length run.exchanges) × (length run.exchanges ≤ length first.exchanges + 3 * length (clock_positions s)) }
-    ensures ran { (s : SegmentValue) (first run : RunEnd) → IsLegal s → HasHonestReplies s → armed s ≡ Some first → ran s ≡ Some run
-        → run.answer ≡ Ok tt
-        → length run.exchanges ≡ length first.exchanges + frames_given s }
+/// Settling knows the reference's time after each exchange, or all its drift frames were lost.
+pub fn settling_follows_losses()
+    ensures next { (lost : ℕ → Bool) (cfg : ConfigValue) (slaves : List SlaveWords) (p : Progress) (e : Exchange) → p.refused ≡ None
+        → p.phase ≡ Settling
+        → Settles lost cfg slaves p → lost (p.drifts + 1) ≡ is_none e.back → StandsSettling lost cfg slaves (after cfg p e) }
 {}
 
-/// Of m + 1 drift numbers in a row one is not listed as lost, so its frame comes back.
-pub fn drift_frames_come()
-    ensures { (s : SegmentValue) (first : ℕ) → IsLegal s → (number : ℕ) × (first ≤ number) × (number ≤ first + s.head.loss_run) × (loses s phase.Drift number ≡ false) }
+/// Arming stands where the drift frames that are lost leave it, after each exchange: at a try of a step, past all steps, or refused with
+/// the step whose three tries are lost.
+pub fn arming_follows_losses()
+    ensures next { (lost : ℕ → Bool) (begin : ℕ) (all : List Step) (cfg : ConfigValue) (p : Progress) (e : Exchange) (step : Step) (rest : List Step) → p.refused ≡ None
+        → p.phase ≡ Arming → p.todo ≡ step ∷ rest → Reached lost begin all p.todo (p.drifts + 1) p.tries → lost (p.drifts + 1) ≡ is_none e.back
+        → StandsArming lost begin all (after cfg p e) }
 {}
 
 /// The list of losses alone tells how each phase of a run ends, and the whole run: it is refused with the first step of commissioning, or
-/// behind it of arming, that loses its three tries, and else it goes well.
+/// after it of arming, that loses its three tries, and else it ends with Ok.
 pub fn losses_tell_the_answer()
     ensures commissioned { (s : SegmentValue) (run : RunEnd) → IsLegal s → commissioned s ≡ Some run → run.answer ≡ answer_for (lost_step_of s false) }
     ensures settled { (s : SegmentValue) (run : RunEnd) → IsLegal s → settled s ≡ Some run → run.answer ≡ answer_for (lost_step_of s false) }
     ensures armed { (s : SegmentValue) (run : RunEnd) → IsLegal s → armed s ≡ Some run → run.answer ≡ answer_for (lost_step_of s true) }
     ensures ran { (s : SegmentValue) (run : RunEnd) → IsLegal s → ran s ≡ Some run → run.answer ≡ answer_for (lost_step_of s true) }
     ensures whole { (s : SegmentValue) (run : RunEnd) → IsLegal s → run_of s ≡ Some run → run.answer ≡ answer_for (lost_step_of s true) }
+{}
+
+/// Where no loss is listed, no step loses its tries.
+pub fn runs_without_losses()
+    ensures { (s : SegmentValue) (with_arming : Bool) → s.losses ≡ [] → lost_step_of s with_arming ≡ None }
+{}
+
+/// After a run that ended with Ok the master keeps a delay for the position of each clock of the file, and for no other, as after its
+/// commissioning.
+pub fn delays_stay()
+    ensures ran { (s : SegmentValue) (run : RunEnd) → IsLegal s → ran s ≡ Some run → run.answer ≡ Ok tt
+        → map is_some (master_after s (Some (frames_given s)) run.exchanges).delays ≡ map (clock_at s.rows) (order (tree_rows s.rows)) }
+    ensures whole { (s : SegmentValue) (run : RunEnd) → IsLegal s → run_of s ≡ Some run → run.answer ≡ Ok tt
+        → map is_some (master_after s (Some (frames_given s)) run.exchanges).delays ≡ map (clock_at s.rows) (order (tree_rows s.rows)) }
 {}
 
 /// A phase that ends with Ok has sent so many frames: commissioning and arming one to three for each of their exchanges, settling
@@ -142,20 +128,6 @@ pub fn phases_send_so_many()
         → (length first.exchanges + length (clock_positions s) ≤ length run.exchanges) × (length run.exchanges ≤ length first.exchanges + 3 * length (clock_positions s)) }
     ensures ran { (s : SegmentValue) (first run : RunEnd) → IsLegal s → armed s ≡ Some first → ran s ≡ Some run → run.answer ≡ Ok tt
         → length run.exchanges ≡ length first.exchanges + frames_given s }
-{}
-
-/// Behind a run that ended with Ok the master keeps a delay for the position of each clock of the file, and for no other, as behind its
-/// commissioning.
-pub fn delays_stay()
-    ensures ran { (s : SegmentValue) (run : RunEnd) → IsLegal s → ran s ≡ Some run → run.answer ≡ Ok tt
-        → map is_some (master_after s (Some (frames_given s)) run.exchanges).delays ≡ map (clock_at s.rows) (order (tree_rows s.rows)) }
-    ensures whole { (s : SegmentValue) (run : RunEnd) → IsLegal s → run_of s ≡ Some run → run.answer ≡ Ok tt
-        → map is_some (master_after s (Some (frames_given s)) run.exchanges).delays ≡ map (clock_at s.rows) (order (tree_rows s.rows)) }
-{}
-
-/// Where no loss is listed, no step loses its tries.
-pub fn runs_without_losses()
-    ensures { (s : SegmentValue) (with_arming : Bool) → s.losses ≡ [] → lost_step_of s with_arming ≡ None }
 {}
 
 /// The frames of commissioning are commission frames, numbered from 1; those of settling, arming and running are drift frames, numbered
@@ -191,8 +163,8 @@ pub fn transmissions_are_few()
     ensures whole { (s : SegmentValue) (run : RunEnd) → IsLegal s → run_of s ≡ Some run → length run.exchanges ≤ 100000 }
 {}
 
-/// What a master counts is what the run has sent. Behind a commissioning that ended with Ok it has counted n + N_m + N_c + 3 sendings and
-/// one more for each loss. Behind a run that ended with Ok it has counted the sendings of all phases, and each frame that did not come
+/// What a master counts is what the run has sent. After a commissioning that ended with Ok it has counted n + N_m + N_c + 3 sendings and
+/// one more for each loss. After a run that ended with Ok it has counted the sendings of all phases, and each frame that did not come
 /// back as one loss; of these, the frames of commissioning and arming were sent once more, and those of settling and of the run phase were
 /// not. At the end of commissioning and of the run, refused or not, it has counted at most 100,000 sendings.
 pub fn masters_count_transmissions()
@@ -208,4 +180,33 @@ pub fn masters_count_transmissions()
         → IsAtEnd s frames (commissioned s) state m answer → m.sent ≤ 100000 }
     ensures few_in_all { (s : SegmentValue) (frames : Option ℕ) (state : SegmentState) (m : Kept) (answer : Answer) → IsLegal s
         → IsAtEnd s frames (run_of s) state m answer → m.sent ≤ 100000 }
+{}
+
+/// Where replies are honest, the list of losses alone tells how each phase ends: it is refused with the first step of commissioning, or
+/// after it of arming, that loses its three tries, and else it ends with Ok.
+pub fn answers_follow_losses()
+    ensures commissioned { (s : SegmentValue) (run : RunEnd) → IsLegal s → HasHonestReplies s → commissioned s ≡ Some run
+        → run.answer ≡ answer_for (lost_step_of s false) }
+    ensures settled { (s : SegmentValue) (run : RunEnd) → IsLegal s → HasHonestReplies s → settled s ≡ Some run
+        → run.answer ≡ answer_for (lost_step_of s false) }
+    ensures armed { (s : SegmentValue) (run : RunEnd) → IsLegal s → HasHonestReplies s → armed s ≡ Some run
+        → run.answer ≡ answer_for (lost_step_of s true) }
+    ensures ran { (s : SegmentValue) (run : RunEnd) → IsLegal s → HasHonestReplies s → ran s ≡ Some run
+        → run.answer ≡ answer_for (lost_step_of s true) }
+{}
+
+/// Where replies are honest, a phase that ends with Ok has sent so many frames: commissioning and arming one to three for each of their
+/// exchanges, settling K + m + 1, and running as many as it is given.
+pub fn honest_phases_send_so_many()
+    ensures commissioned { (s : SegmentValue) (run : RunEnd) → IsLegal s → HasHonestReplies s → commissioned s ≡ Some run → run.answer ≡ Ok tt
+        → (length (commission_steps s) ≤ length run.exchanges) × (length run.exchanges ≤ 3 * length (commission_steps s)) }
+    ensures settled { (s : SegmentValue) (first run : RunEnd) → IsLegal s → HasHonestReplies s → commissioned s ≡ Some first
+        → settled s ≡ Some run → run.answer ≡ Ok tt
+        → length run.exchanges ≡ length first.exchanges + settle_frames (master_of s) }
+    ensures armed { (s : SegmentValue) (first run : RunEnd) → IsLegal s → HasHonestReplies s → settled s ≡ Some first → armed s ≡ Some run
+        → run.answer ≡ Ok tt
+        → (length first.exchanges + length (clock_positions s) ≤ length run.exchanges) × (length run.exchanges ≤ length first.exchanges + 3 * length (clock_positions s)) }
+    ensures ran { (s : SegmentValue) (first run : RunEnd) → IsLegal s → HasHonestReplies s → armed s ≡ Some first → ran s ≡ Some run
+        → run.answer ≡ Ok tt
+        → length run.exchanges ≡ length first.exchanges + frames_given s }
 {}

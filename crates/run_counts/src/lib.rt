@@ -1,33 +1,31 @@
-//! The numbers and the instants of the frames of a run. Laws about definitions, and no code.
+//! How many frames the run of a legal file sends, which of them are lost, and how each phase ends: by the file
+//! alone. Laws about definitions; there is nothing to run here.
 //!
-//! The script counts what it sends, and so does the segment that it is sent over: all frames, and those of each kind. Both count alike, so
-//! frame s of a run leaves at s frame periods, and the frame that the script numbers is lost exactly where the file lists that number.
-//! Of the contents of frames nothing is known but whether they begin with a FRMW.
+//! A run is a script (`master_script`) over a segment (`frame_pass`) that loses the frames that its file lists by
+//! their numbers. The laws are read in this order.
 //!
-//! How far a script has come, by the numbers of its frames that are lost. Laws about definitions, and no code.
+//! **The numbers of a segment.** Script and segment count alike, all frames and those of each kind, so frame s
+//! leaves at s frame periods ([`laws::segments_keep_step`]), and a frame that the script numbers is lost exactly
+//! where the file lists that number. Of `loss_run` + 1 drift frames in a row one comes back
+//! ([`laws::drift_frames_come`]). Of the contents of frames nothing is known here but whether they begin with FRMW.
 //!
-//! A master sends the frame of a step up to three times, and asks the next step once a try has come back. So the step that it has come to,
-//! and the one at which it gives up, follow from the numbers of the frames that are lost (`specs/Reached.antt`). Of a file, a segment and
-//! an instant nothing is known here, and of a refusal for another reason nothing is said (`specs/IfLost.antt`).
+//! **The steps and their tries.** A file has as many measuring slaves and clocks in frame order as rows of them
+//! ([`laws::positions_are_counted`]), so the steps of commissioning and of arming are counted
+//! ([`laws::steps_are_counted`]). An exchange of a step uses one to three numbers ([`laws::exchanges_use_numbers`]).
+//! Which step a script has come to, and at which it gives up, follows from the numbers that are lost
+//! ([`laws::commissioning_follows_losses`], [`laws::settling_follows_losses`], [`laws::arming_follows_losses`]);
+//! these three know no file, no segment and no instant, and say nothing of a refusal for another reason.
 //!
-//! How many steps a run of a segment asks, and how many frames their exchanges use. Laws over the file alone, and no code.
+//! **How a run ends.** The list of losses alone tells how each phase answers, and the whole run
+//! ([`laws::losses_tell_the_answer`]): slaves are honest (`honest_slaves`), so nothing else can refuse it. Where
+//! nothing is listed, no step loses its tries ([`laws::runs_without_losses`]). The master keeps a delay for each
+//! clock, and for no other slave, to the end of a run that ends with Ok ([`laws::delays_stay`]).
 //!
-//! The frame order lists every row of a file once, so it has as many measuring slaves and clocks as the file has rows of them. An
-//! exchange uses a number of its phase for each try: the tries before the last are lost, and the last one comes back, or is the third
-//! and lost too. So the list of losses tells how many numbers are used.
-//!
-//! How the run of a segment file goes by its list of losses, as laws about definitions. There is nothing to run here.
-//!
-//! A run follows a script (`run_of_file`), whose steps are asked up to three times (`script_tries`), over a segment that loses the frames
-//! that its file lists by their numbers (`run_numbers`). The laws say what follows for the answer of each phase, and for how many frames it
-//! sends. Of the contents of frames they know nothing: that replies pass the script's tests is a premise where it is needed
-//! (`specs/Honest.antt`).
-//!
-//! How the run of a legal segment ends, by its list of losses alone, and that what commissioning measured stays to the end. Laws, and
-//! no code: the laws on honest replies take the premise from those on the schedule of a run.
-//!
-//! How many frames the run of a legal segment sends, which of them are commission and which are drift frames, and which are lost, by the
-//! file alone. Laws, and no code.
+//! **How many frames it sends.** Each phase that ends with Ok has sent so many ([`laws::phases_send_so_many`]). The
+//! frames of commissioning are commission frames, all later ones drift frames, each kind numbered from 1
+//! ([`laws::frames_are_numbered`]). A run that ends with Ok has sent a number of frames that follows from the file and
+//! from what was lost ([`laws::transmissions_are_told`]), and no run sends more than 100,000
+//! ([`laws::transmissions_are_few`]). What the master counts is what was sent ([`laws::masters_count_transmissions`]).
 #![tactic(auto)]
 
 pub mod laws;

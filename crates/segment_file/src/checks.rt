@@ -17,8 +17,8 @@ use crate::seg_error::SegError;
 use crate::slave_row::SlaveRow;
 use crate::time_checks::check_times;
 use cable_tree::Tree;
-use segment_shape::Head;
 use loss_list::LossList;
+use segment_shape::Head;
 use std::alloc::Global;
 
 /// What is known of a segment without fault.

@@ -9,9 +9,9 @@ use crate::seg_error::SegError;
 use crate::slave_row::{SlaveRow, clock_flags, measuring_flags};
 use cable_tree::Tree;
 use dc_bounds::{reference, unmeasurable};
+use esc_regs::measures;
 use osc_clock::RateRow;
 use segment_shape::Id;
-use esc_regs::measures;
 
 // Whether a period is within ppm of 10 ns.
 fn is_within(ppm: u32, period_fs: u64) -> bool

@@ -10,8 +10,8 @@ use crate::counts::Counts;
 use crate::drift_runs::first_run;
 use crate::seg_error::SegError;
 use dc_bounds::{lock_count, reach_fs, run_frames};
-use segment_shape::Head;
 use loss_list::LossList;
+use segment_shape::Head;
 
 /// The most transmissions that a run may take.
 const MOST_FRAMES: u128 = 100_000;

@@ -23,9 +23,9 @@ mod segment;
 mod slave_row;
 mod time_checks;
 
+pub use esc_regs::{has_clock, measures};
+pub use loss_list::{LossRow, Phase};
 pub use seg_error::{SegError, ShapeTree};
 pub use segment::{Segment, read_segment};
 pub use segment_shape::{Id, KeyPath};
-pub use esc_regs::{has_clock, measures};
-pub use loss_list::{LossRow, Phase};
 pub use slave_row::{Flags, SlaveRow, clock_flags, measuring_flags};

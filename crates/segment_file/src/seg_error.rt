@@ -1,3 +1,29 @@
+//! Why a file is no legal segment: the way from one bad value to the line that `dc` prints.
+//!
+//! ```text
+//!  Key -> RowFault -> SlaveFault -> KeyPath -> ShapeError -+-> SegError -+-> SegFault -> Outcome::BadSegment -+-> line
+//!                              TreeError -> ShapeTree -----+             |                                    |
+//!                  checks of clocks, times and frames -----+             +-> BadText, NoMemory -> Outcome ----+
+//! ```
+//!
+//! On the right is what each step says of `examples/refused/missing-port.json`, where slave 1 has a parent and no port:
+//!
+//! ```text
+//!  Key         segment_shape/src/value_at.rt, slave_row.rt   Port: the value is missing, or of a wrong type or range
+//!  RowFault    segment_shape/src/row_fault.rt                At(Port); Row: the row is no object, or has an unknown key
+//!  SlaveFault  segment_shape/src/slave_fault.rt              Own(At(Port)); Rate: of a row of the slave's rates
+//!  KeyPath     segment_shape/src/key_path.rt                 slaves[1].port; keys of the head, and losses, come here at once
+//!  ShapeError  segment_shape/src/shape_error.rt, shape.rt    Shape(slaves[1].port); also BadText, Twice and NoMemory
+//!  TreeError   cable_tree/src/error.rt, checks.rt            the rows are no tree
+//!  ShapeTree   here, by checks.rt                            the same, less NoMemory
+//!  checks      clock_checks.rt, time_checks.rt,
+//!              frame_checks.rt                               Rate to TooMuch, in the order of `SegError`
+//!  SegError    here, by segment.rt                           Shape(slaves[1].port): the first check that fails
+//!  SegFault    dc_top/src/seg_fault.rt                       the same, less BadText and NoMemory; its text is the end of the line
+//!  Outcome     dc_top/src/outcome.rt                         BadSegment(..): status 4, and the line
+//!  line        dc_cli/src/main.rt                            dc: segment: shape slaves[1].port
+//! ```
+
 ghost use Rattle.std.specs.Prelude.{◌≡◌};
 ghost use Rattle.segment_file.specs.declared.seg_error.SegError.TheVariants.{NoMemory};
 ghost use Rattle.segment_file.specs.ErrorOf.{shape_error_of, tree_error_of};

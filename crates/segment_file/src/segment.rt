@@ -22,8 +22,8 @@ use crate::slave_row::{SlaveRow, clock_flags};
 use crate::time_checks::step_of;
 use cable_tree::Tree;
 use dc_bounds::reference;
-use segment_shape::{Head, Shape, read_shape};
 use loss_list::{LossList, LossRow, Phase};
+use segment_shape::{Head, Shape, read_shape};
 use std::alloc::{AllocError, Global};
 use std::marker::Model;
 

@@ -4,10 +4,9 @@ ghost use Rattle.segment_file.specs.Seen.{row_seen};
 
 use arrayvec::ArrayVec;
 use cable_tree::Above;
-use esc_regs::ClockKind;
+use esc_regs::{ClockKind, has_clock, measures};
 use osc_clock::RateList;
 use segment_shape::Id;
-use esc_regs::{has_clock, measures};
 
 /// A slave of a segment. The numbers of its clock are 0, empty or None where it has none: all of them at a
 /// slave of kind None, shift and SYNC1 time at one of kind R32.

@@ -1,4 +1,4 @@
-//! Laws over the definitions alone, for proofs of the layers above. They speak of any legal segment.
+//! What a legal segment is before its first frame, and what every frame keeps of it.
 
 ghost use Rattle.std.specs.Prelude.{◌≡◌, ℕ, ◌+◌, ◌*◌, ◌<◌, ◌≤◌, ◌^◌, List, [], length, Some, IfSome, slice_get};
 ghost use Rattle.ecat_frame.specs.FrameGrammar.{FrameValue};
@@ -14,21 +14,14 @@ ghost use Rattle.frame_pass.specs.ReceiveTimes.{AreInTurn};
 ghost use Rattle.segment_start.specs.Start.{registers_of, visits_of, timing_by, slave_of, started_segment};
 ghost use Rattle.segment_start.specs.Numbered.{AreNumberedSlaves};
 
-/// Nothing was sent yet, and every slave stands at true time 0, with 4096 bytes of registers and visits within the
-/// round trip. So time goes on from there (the law of `frame_pass` on times).
-pub fn starts_in_order()
-    ensures timely { (s : SegmentValue) → IsLegal s → IsSoundSegment (started_segment s) }
-    ensures unsent { (s : SegmentValue) → IsUnsent (started_segment s) }
-{}
-
-/// The slaves stand in frame order, one for each row.
+/// The slaves are in frame order, one for each row.
 pub fn slaves_in_frame_order()
     ensures count { (s : SegmentValue) → IsLegal s → length (started_segment s).slaves ≡ length s.rows }
     ensures each { (s : SegmentValue) (p : ℕ) → IsLegal s → p < length s.rows
         → slice_get (started_segment s).slaves p ≡ Some (slave_of s (row_at s p)) }
 {}
 
-/// What stands at a position: the row there in frame order, and by that row when a frame visits the slave, its registers,
+/// What is at a position: the row there in frame order, and by that row when a frame visits the slave, its registers,
 /// and its clock with the unit and the edges.
 pub fn slave_at_position()
     ensures row { (s : SegmentValue) (p : ℕ) (v : Slave) → IsLegal s → slice_get (started_segment s).slaves p ≡ Some v
@@ -52,6 +45,13 @@ pub fn visits_in_turn()
 pub fn clocks_begin()
     ensures { (s : SegmentValue) (r : ℕ) → IsLegal s → r < length s.rows
         → IfSome (slave_of s r).timing (λ m. HasHistory (width (slave_of s r).registers.kind) m.clock [] (slave_of s r) × IsRunning m.clock.osc × (m.clock.instant ≡ 0)) }
+{}
+
+/// Nothing was sent yet, and every slave is at true time 0, with 4096 bytes of registers and visits within the
+/// round trip. So time goes on from there (the law of `frame_pass` on times).
+pub fn starts_in_order()
+    ensures timely { (s : SegmentValue) → IsLegal s → IsSoundSegment (started_segment s) }
+    ensures unsent { (s : SegmentValue) → IsUnsent (started_segment s) }
 {}
 
 /// Where each frame of a legal segment is sent a frame period after the one before, sending s leaves at s periods.
