@@ -85,7 +85,7 @@ whole_in_turn s t c (h ∷ rest) later run early late until from =
     rw (first, second)
     (whole_in_turn s t a rest later (rw osc run) (omega (arith, at, here)) late (All-tail (λ (e : Happening). e.instant ≤ s) h rest until) from)
 
--- the clock at t stands at t, with the oscillator that it had
+-- the clock at t has t as its instant, and the oscillator that it had
 pub whole_stands : (t : ℕ) (c : Clock) (events : List Happening) → ((whole_clock_at c events t).instant ≡ t) × ((whole_clock_at c events t).osc ≡ c.osc)
 whole_stands t c [] = (refl, refl)
 whole_stands t c (h ∷ rest) =
@@ -98,7 +98,7 @@ whole_stands t c (h ∷ rest) =
       | inl after ↦ let e = is_after h.instant t after in rw e (refl, refl)
     ]
 
--- an advance to where it stands is none
+-- an advance to its own instant changes nothing
 pub whole_here : (c : Clock) → whole_advanced c.instant c ≡ c
 whole_here c =
     let none : ticks_to c c.instant ≡ 0 = omega arith in
