@@ -10,7 +10,6 @@ use Rattle.sync_units.specs.Calls.{Call, AreInTurn, end_of, unit_after_calls, li
 use Rattle.sync_units.specs.KeptEdges.{Kept}
 use Rattle.sync_units.specs.SyncRule.{Armed}
 use Rattle.frame_pass.specs.SlaveState.{Timing, Measuring, Slave, width, offset}
-use Rattle.frame_pass.specs.Advancing.{advanced_to}
 use Rattle.frame_pass.specs.DatagramTable.{writes}
 use Rattle.frame_pass.specs.DatagramAtSlave.{doing, slave_after}
 use Rattle.frame_pass.specs.FramePass.{comes_by, port_taken, slave_behind, are_latching, at_arrival}

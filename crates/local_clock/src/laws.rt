@@ -12,6 +12,7 @@ ghost use Rattle.local_clock.specs.Reading.{Clock, started, steering_of, ticks_t
 ghost use Rattle.local_clock.specs.Reading.{Happening, IsPossible, after_event, clock_at, reading_at, AreUntil, AreInOrder};
 ghost use Rattle.local_clock.specs.LocalTime.{whole_clock_at, local_time, cut_to};
 ghost use Rattle.local_clock.specs.FirstReaching.{is_behind, tick_after};
+ghost use Rattle.local_clock.specs.Since.{IsSince};
 
 /// The reading less what is left rises by exactly 10 ns at every tick, whether it corrects or not.
 /// So k ticks after a received d, with no other event, it has risen by 10·k - d + left.
@@ -107,6 +108,13 @@ pub fn words_of_local_time()
     ensures offset { (w n s t : ℕ) → (c : Clock) → (events : List Happening) → local_time c events s ≤ local_time c events t
         → (reading_at w c events t + word_less w n (reading_at w c events s)) % 2 ^ w
         ≡ (n + (local_time c events t - local_time c events s)) % 2 ^ w }
+{}
+
+/// Since a clock received a difference d, with no other event, its local time has gone on by 10 ns a tick
+/// and by what is left of d, less d. Of d as much is worked off as the ticks since then allow, and no more.
+pub fn times_since_receipts()
+    ensures { (c : Clock) (events : List Happening) (at : ℕ) (d : ℤ) (t : ℕ) → IsRunning c.osc → c.instant ≤ at → at ≤ t → AreUntil at events
+        → 0 < (whole_clock_at c events at).g → IsSince c events at d t }
 {}
 
 /// Of the words of numbers less than half of the range apart, that of the lesser number is behind.
