@@ -23,7 +23,6 @@ ghost use Rattle.lost_step.specs.LostStep.{arm_steps, asked, clock_positions, co
 ghost use Rattle.run_counts.specs.Numbers.{IsLostAt, lost_numbers};
 ghost use Rattle.loss_list.specs.declared.loss_row.Phase.TheVariants as phase;
 ghost use Rattle.run_counts.specs.Answers.{answer_for};
-ghost use Rattle.run_counts.specs.Honest.{HasHonestReplies};
 ghost use Rattle.std.specs.Option.{is_some};
 ghost use Rattle.cable_tree.specs.FrameOrder.{order};
 ghost use Rattle.master_script.specs.Kept.{Kept};
@@ -180,33 +179,4 @@ pub fn masters_count_transmissions()
         → IsAtEnd s frames (commissioned s) state m answer → m.sent ≤ 100000 }
     ensures few_in_all { (s : SegmentValue) (frames : Option ℕ) (state : SegmentState) (m : Kept) (answer : Answer) → IsLegal s
         → IsAtEnd s frames (run_of s) state m answer → m.sent ≤ 100000 }
-{}
-
-/// Where replies are honest, the list of losses alone tells how each phase ends: it is refused with the first step of commissioning, or
-/// after it of arming, that loses its three tries, and else it ends with Ok.
-pub fn answers_follow_losses()
-    ensures commissioned { (s : SegmentValue) (run : RunEnd) → IsLegal s → HasHonestReplies s → commissioned s ≡ Some run
-        → run.answer ≡ answer_for (lost_step_of s false) }
-    ensures settled { (s : SegmentValue) (run : RunEnd) → IsLegal s → HasHonestReplies s → settled s ≡ Some run
-        → run.answer ≡ answer_for (lost_step_of s false) }
-    ensures armed { (s : SegmentValue) (run : RunEnd) → IsLegal s → HasHonestReplies s → armed s ≡ Some run
-        → run.answer ≡ answer_for (lost_step_of s true) }
-    ensures ran { (s : SegmentValue) (run : RunEnd) → IsLegal s → HasHonestReplies s → ran s ≡ Some run
-        → run.answer ≡ answer_for (lost_step_of s true) }
-{}
-
-/// Where replies are honest, a phase that ends with Ok has sent so many frames: commissioning and arming one to three for each of their
-/// exchanges, settling K + m + 1, and running as many as it is given.
-pub fn honest_phases_send_so_many()
-    ensures commissioned { (s : SegmentValue) (run : RunEnd) → IsLegal s → HasHonestReplies s → commissioned s ≡ Some run → run.answer ≡ Ok tt
-        → (length (commission_steps s) ≤ length run.exchanges) × (length run.exchanges ≤ 3 * length (commission_steps s)) }
-    ensures settled { (s : SegmentValue) (first run : RunEnd) → IsLegal s → HasHonestReplies s → commissioned s ≡ Some first
-        → settled s ≡ Some run → run.answer ≡ Ok tt
-        → length run.exchanges ≡ length first.exchanges + settle_frames (master_of s) }
-    ensures armed { (s : SegmentValue) (first run : RunEnd) → IsLegal s → HasHonestReplies s → settled s ≡ Some first → armed s ≡ Some run
-        → run.answer ≡ Ok tt
-        → (length first.exchanges + length (clock_positions s) ≤ length run.exchanges) × (length run.exchanges ≤ length first.exchanges + 3 * length (clock_positions s)) }
-    ensures ran { (s : SegmentValue) (first run : RunEnd) → IsLegal s → HasHonestReplies s → armed s ≡ Some first → ran s ≡ Some run
-        → run.answer ≡ Ok tt
-        → length run.exchanges ≡ length first.exchanges + frames_given s }
 {}
