@@ -2,7 +2,7 @@ ghost use Rattle.std.specs.Prelude.{◌≡◌, ◌+◌, ◌<◌, ◌≤◌, ◌�
 ghost use Rattle.ecat_frame.specs.Built.{fresh, built, front_of, size_of};
 ghost use Rattle.ecat_frame.specs.FrameGrammar.{all_spelled};
 
-use crate::bytes::{part_of, read_word, write_part, write_word};
+use crate::bytes::{place_of, read_word, write_part, write_word};
 use crate::datagram::{Head, write_datagram};
 use crate::frame::Frame;
 use crate::layout::{
@@ -90,7 +90,7 @@ impl Builder {
         ensures { result ≡ built self }
     {
         let mut bytes = self.bytes;
-        let at = part_of(&bytes, self.count - 1) + LENGTH_WORD;
+        let at = place_of(&bytes, self.count - 1) + LENGTH_WORD;
         let length_word = read_word(&bytes, at);
         write_word(&mut bytes, at, length_word & !MORE);
         write_front(&mut bytes, (self.len - FIRST) as u16);

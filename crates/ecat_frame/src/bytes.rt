@@ -39,7 +39,7 @@ pub(crate) fn data_length(bytes: &[u8], at: usize) -> usize
 }
 
 /// Where datagram k of a frame begins.
-pub(crate) fn part_of(bytes: &[u8], k: usize) -> usize
+pub(crate) fn place_of(bytes: &[u8], k: usize) -> usize
     requires { 16 + place_in k (drop 16 bytes.now) + 8 ≤ length bytes.now }
     ensures { result ≡ 16 + place_in k (drop 16 bytes.now) }
 {

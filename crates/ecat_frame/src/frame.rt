@@ -6,7 +6,7 @@ ghost use Rattle.ecat_frame.specs.Changed.{answered, changed, put};
 ghost use Rattle.ecat_frame.specs.Difference.{first_difference};
 ghost use Rattle.ecat_frame.specs.Reading.{seen};
 
-use crate::bytes::{data_length, datagrams_in, part_of, read_word, write_part, write_word};
+use crate::bytes::{data_length, datagrams_in, place_of, read_word, write_part, write_word};
 use crate::datagram::Datagram;
 use crate::difference::{head_difference, word_difference};
 use crate::error::FrameError;
@@ -141,7 +141,7 @@ impl Frame {
         requires { k < length self.now.datagrams }
         ensures { BeginsAt self.now k result }
     {
-        part_of(&self.bytes, k)
+        place_of(&self.bytes, k)
     }
 
     /// Writes the ADP of datagram k.

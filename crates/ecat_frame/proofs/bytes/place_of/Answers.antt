@@ -1,6 +1,6 @@
 use Rattle.std.proofs.Common.{arith}
 use Rattle.ecat_frame.proofs.Places.{walked, walked_all}
-use Rattle.ecat_frame.proofs.bytes.part_of.Goals as goal
+use Rattle.ecat_frame.proofs.bytes.place_of.Goals as goal
 
 pub loop-i-preserved : goal.loop-i-preserved
 loop-i-preserved c =
