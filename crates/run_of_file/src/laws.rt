@@ -13,7 +13,7 @@ ghost use Rattle.segment_file.specs.Segment.{SegmentValue};
 ghost use Rattle.segment_file.specs.Legal.{IsLegal};
 ghost use Rattle.run_of_file.specs.MasterOfFile.{master_of};
 ghost use Rattle.master_script.specs.declared.step.MasterError.{MasterError};
-ghost use Rattle.run_of_file.specs.RunOfFile.{RunEnd, commissioned, settled, armed, ran, run_of, end_of_run, frames_given, master_after};
+ghost use Rattle.run_of_file.specs.RunOfFile.{RunEnd, commissioned, settled, armed, ran, run_of, end_of_run, commissioned_from, settled_from, armed_from, ran_from, run_from, frames_given, master_after};
 ghost use Rattle.run_of_file.specs.AtEnd.{IsAtEnd};
 
 /// The master of a legal segment is told of each slave once, and its numbers lie in their ranges.
@@ -26,13 +26,14 @@ pub fn masters_are_in_range()
     ensures frames { (s : SegmentValue) → IsLegal s → frames_given s ≤ 100000 }
 {}
 
-/// Every legal segment has a run, and each phase of it has an end.
+/// Every legal segment has a run, and each phase of it has an end. So does a run from any sound state of the segment on.
 pub fn runs_end()
     ensures commissioned { (s : SegmentValue) → IsLegal s → IsSome (commissioned s) }
     ensures settled { (s : SegmentValue) → IsLegal s → IsSome (settled s) }
     ensures armed { (s : SegmentValue) → IsLegal s → IsSome (armed s) }
     ensures ran { (s : SegmentValue) → IsLegal s → IsSome (ran s) }
     ensures whole { (s : SegmentValue) → IsLegal s → IsSome (run_of s) }
+    ensures from { (s : SegmentValue) → IsLegal s → (start : SegmentState) → IsSoundSegment start → IsSome (run_from s start) }
 {}
 
 /// The exchanges of a run are those that the script wants, in each phase, and time never goes back in it.
@@ -81,4 +82,27 @@ pub fn calls_make_the_run()
         → (later : SegmentState) (n : Kept) → n.config ≡ m.config → (answer : Answer)
         → Serves segment_step (script m.config (Run (frames_given s))) (StandsFor None m) (Some state) (Some later) (Ends m.config (Run (frames_given s)) n answer)
         → IsAtEnd s (Some (frames_given s)) (ran s) later n answer }
+{}
+
+/// The same from any sound state of the segment on, such as one in which a latch input expects an event.
+pub fn calls_make_runs_from()
+    ensures commission { (s : SegmentValue) → IsLegal s → (start : SegmentState) (m : Kept) → m ≡ master_after s None []
+        → (later : SegmentState) (n : Kept) → n.config ≡ m.config
+        → (answer : Answer) → Serves segment_step (script m.config Commission) (StandsFor None m) (Some start) (Some later) (Ends m.config Commission n answer)
+        → IsAtEnd s None (commissioned_from s start) later n answer }
+    ensures settle { (s : SegmentValue) → IsLegal s → (start : SegmentState) → IsSoundSegment start
+        → (state : SegmentState) (m : Kept) → IsAtEnd s None (commissioned_from s start) state m (Ok tt)
+        → (later : SegmentState) (n : Kept) → n.config ≡ m.config → (answer : Answer)
+        → Serves segment_step (script m.config Settle) (StandsFor None m) (Some state) (Some later) (Ends m.config Settle n answer)
+        → IsAtEnd s None (settled_from s start) later n answer }
+    ensures arm { (s : SegmentValue) → IsLegal s → (start : SegmentState) → IsSoundSegment start
+        → (state : SegmentState) (m : Kept) → IsAtEnd s None (settled_from s start) state m (Ok tt)
+        → (later : SegmentState) (n : Kept) → n.config ≡ m.config → (answer : Answer)
+        → Serves segment_step (script m.config Arm) (StandsFor None m) (Some state) (Some later) (Ends m.config Arm n answer)
+        → IsAtEnd s None (armed_from s start) later n answer }
+    ensures run { (s : SegmentValue) → IsLegal s → (start : SegmentState) → IsSoundSegment start
+        → (state : SegmentState) (m : Kept) → IsAtEnd s None (armed_from s start) state m (Ok tt)
+        → (later : SegmentState) (n : Kept) → n.config ≡ m.config → (answer : Answer)
+        → Serves segment_step (script m.config (Run (frames_given s))) (StandsFor None m) (Some state) (Some later) (Ends m.config (Run (frames_given s)) n answer)
+        → IsAtEnd s (Some (frames_given s)) (ran_from s start) later n answer }
 {}
