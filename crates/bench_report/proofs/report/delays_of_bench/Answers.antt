@@ -9,4 +9,4 @@ measured_delays-requires c = commissioned_delays c.args.segment.now c.args.bench
 pub delay_table-requires : goal.delay_table-requires
 delay_table-requires c =
     let are = commissioned_delays c.args.segment.now c.args.bench.now c.requires.legal c.requires.run in
-    subst (AreDelays c.args.segment.now) (sym (c.deref.ensures.value ∙ c.in-Ok.ensures)) are
+    subst (AreDelays c.args.segment.now) (sym (c.deref.ensures.value ∙ c.in_ok-delays.ensures)) are
