@@ -48,11 +48,14 @@ impl Bench {
         ensures answered { IsAnswered Stage.Commissioned self.old.master self.new.master result }
         ensures spent { (r : Refusal) → self.old.master.refusal ≡ Some r → (self.new ≡ self.old) × (result ≡ Err (Error.Spent r)) }
         ensures serves { self.old.master.refusal ≡ None → Serves segment_step (script self.old.master.config Commission)
-            (StandsFor None self.old.master) (Some self.old.wire) (Some self.new.wire) (Ends self.old.master.config Commission self.new.master result) }
+            (StandsFor None self.old.master) (Some self.old.wire) (Some self.new.wire)
+            (Ends self.old.master.config Commission self.new.master result) }
         ensures later { self.old.wire.lost ≤ self.new.wire.lost }
         ensures lost { (step : Step) → result ≡ Err (Error.Refused (Reason.Lost step)) → RoseBy 3 self.old.wire.lost self.new.wire.lost }
-        ensures caused { (r : Refusal) → result ≡ Err (Error.Refused r) → IsCause self.old.master.config Commission self.new.master.drifts self.new.master.words r }
-        ensures judged { (r : Refusal) → self.old.master.refusal ≡ None → AreRefused self.old.master.config self.new.master.words.slaves r → result ≡ Err (Error.Refused r) }
+        ensures caused { (r : Refusal) → result ≡ Err (Error.Refused r)
+            → IsCause self.old.master.config Commission self.new.master.drifts self.new.master.words r }
+        ensures judged { (r : Refusal) → self.old.master.refusal ≡ None → AreRefused self.old.master.config self.new.master.words.slaves r
+            → result ≡ Err (Error.Refused r) }
     {
         self.master.commission(&mut self.wire)
     }
@@ -63,10 +66,13 @@ impl Bench {
         ensures answered { IsAnswered Stage.Settled self.old.master self.new.master result }
         ensures spent { (r : Refusal) → self.old.master.refusal ≡ Some r → (self.new ≡ self.old) × (result ≡ Err (Error.Spent r)) }
         ensures serves { self.old.master.refusal ≡ None → Serves segment_step (script self.old.master.config Settle)
-            (StandsFor None self.old.master) (Some self.old.wire) (Some self.new.wire) (Ends self.old.master.config Settle self.new.master result) }
+            (StandsFor None self.old.master) (Some self.old.wire) (Some self.new.wire)
+            (Ends self.old.master.config Settle self.new.master result) }
         ensures later { self.old.wire.lost ≤ self.new.wire.lost }
-        ensures lost { (step : Step) → result ≡ Err (Error.Refused (Reason.Lost step)) → RoseBy (settle_frames self.old.master.config) self.old.wire.lost self.new.wire.lost }
-        ensures caused { (r : Refusal) → result ≡ Err (Error.Refused r) → IsCause self.old.master.config Settle self.new.master.drifts self.new.master.words r }
+        ensures lost { (step : Step) → result ≡ Err (Error.Refused (Reason.Lost step))
+            → RoseBy (settle_frames self.old.master.config) self.old.wire.lost self.new.wire.lost }
+        ensures caused { (r : Refusal) → result ≡ Err (Error.Refused r)
+            → IsCause self.old.master.config Settle self.new.master.drifts self.new.master.words r }
     {
         self.master.settle(&mut self.wire)
     }
@@ -77,10 +83,12 @@ impl Bench {
         ensures answered { IsAnswered Stage.Armed self.old.master self.new.master result }
         ensures spent { (r : Refusal) → self.old.master.refusal ≡ Some r → (self.new ≡ self.old) × (result ≡ Err (Error.Spent r)) }
         ensures serves { self.old.master.refusal ≡ None → Serves segment_step (script self.old.master.config Arm)
-            (StandsFor None self.old.master) (Some self.old.wire) (Some self.new.wire) (Ends self.old.master.config Arm self.new.master result) }
+            (StandsFor None self.old.master) (Some self.old.wire) (Some self.new.wire)
+            (Ends self.old.master.config Arm self.new.master result) }
         ensures later { self.old.wire.lost ≤ self.new.wire.lost }
         ensures lost { (step : Step) → result ≡ Err (Error.Refused (Reason.Lost step)) → RoseBy 3 self.old.wire.lost self.new.wire.lost }
-        ensures caused { (r : Refusal) → result ≡ Err (Error.Refused r) → IsCause self.old.master.config Arm self.new.master.drifts self.new.master.words r }
+        ensures caused { (r : Refusal) → result ≡ Err (Error.Refused r)
+            → IsCause self.old.master.config Arm self.new.master.drifts self.new.master.words r }
     {
         self.master.arm(&mut self.wire)
     }
@@ -92,10 +100,12 @@ impl Bench {
         ensures answered { IsAnswered Stage.Ended self.old.master self.new.master result }
         ensures spent { (r : Refusal) → self.old.master.refusal ≡ Some r → (self.new ≡ self.old) × (result ≡ Err (Error.Spent r)) }
         ensures serves { self.old.master.refusal ≡ None → Serves segment_step (script self.old.master.config (Run frames))
-            (StandsFor None self.old.master) (Some self.old.wire) (Some self.new.wire) (Ends self.old.master.config (Run frames) self.new.master result) }
+            (StandsFor None self.old.master) (Some self.old.wire) (Some self.new.wire)
+            (Ends self.old.master.config (Run frames) self.new.master result) }
         ensures later { self.old.wire.lost ≤ self.new.wire.lost }
         ensures lost { (step : Step) → result ≡ Err (Error.Refused (Reason.Lost step)) → ⊥ }
-        ensures caused { (r : Refusal) → result ≡ Err (Error.Refused r) → IsCause self.old.master.config (Run frames) self.new.master.drifts self.new.master.words r }
+        ensures caused { (r : Refusal) → result ≡ Err (Error.Refused r)
+            → IsCause self.old.master.config (Run frames) self.new.master.drifts self.new.master.words r }
     {
         self.master.run(&mut self.wire, frames)
     }

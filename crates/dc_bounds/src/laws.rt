@@ -56,8 +56,10 @@ pub fn quarter_period()
 /// In a segment of at most 256 slaves no way down weighs more than 512, and no slave more than 1024,
 /// whatever slaves measure and are clocks.
 pub fn weights_are_few()
-    ensures way { (rows : List Row) (measures : ℕ → Bool) (c r : ℕ) → IsSegment rows → r < length rows → weight_below rows measures c r ≤ 512 }
-    ensures weight { (rows : List Row) (measures timed : ℕ → Bool) (r : ℕ) → IsSegment rows → r < length rows → weight rows measures timed r ≤ 1024 }
+    ensures way { (rows : List Row) (measures : ℕ → Bool) (c r : ℕ) → IsSegment rows → r < length rows
+        → weight_below rows measures c r ≤ 512 }
+    ensures weight { (rows : List Row) (measures timed : ℕ → Bool) (r : ℕ) → IsSegment rows → r < length rows
+        → weight rows measures timed r ≤ 1024 }
 {}
 
 /// The weight and the delay bound are 0 at the reference, and at no other row: for all rows, whatever
@@ -67,7 +69,8 @@ pub fn reference_has_no_weight()
         → (weight rows measures timed r ≡ 0) ↔ (r ≡ q) }
     ensures bound { (ppm : ℕ) (rows : List Row) (measures timed : ℕ → Bool) (q r round_trip : ℕ) → reference rows timed ≡ Some q
         → (delay_bound ppm (weight rows measures timed r) round_trip ≡ 0) ↔ (r ≡ q) }
-    ensures no_clock { (rows : List Row) (measures timed : ℕ → Bool) (r : ℕ) → reference rows timed ≡ None → weight rows measures timed r ≡ 0 }
+    ensures no_clock { (rows : List Row) (measures timed : ℕ → Bool) (r : ℕ) → reference rows timed ≡ None
+        → weight rows measures timed r ≡ 0 }
 {}
 
 /// The reference is a slave of the tree, and a clock, and a frame arrives at no clock before it.
@@ -120,7 +123,8 @@ pub fn differences_fall()
         ⊎ (size (suc j) + sure_fall ppm frame_ns speed loss_run ≤ size j))
         → (j : ℕ) → j < count → (size j ≤ jump ppm (silence_fs loss_run frame_ns))
         ⊎ (size j + j * sure_fall ppm frame_ns speed loss_run ≤ jump ppm reach) }
-    ensures locked { (ppm frame_ns speed loss_run reach : ℕ) (frame size : ℕ → ℕ) (count : ℕ) → pos 1 ≤ℤ lock_step ppm frame_ns speed loss_run
+    ensures locked { (ppm frame_ns speed loss_run reach : ℕ) (frame size : ℕ → ℕ) (count : ℕ)
+        → pos 1 ≤ℤ lock_step ppm frame_ns speed loss_run
         → frame 0 ≤ loss_run + 1 → ((j : ℕ) → suc j < count → frame (suc j) ≤ frame j + (loss_run + 1))
         → size 0 ≤ jump ppm reach
         → ((j : ℕ) → suc j < count → (size (suc j) ≤ jump ppm (silence_fs loss_run frame_ns))
@@ -212,7 +216,8 @@ pub fn start_lies_ahead()
 /// of every signal (`edges`).
 pub fn run_is_long_enough()
     ensures frames { (clocks loss_run frame_ns cycle_ns cycles : ℕ) → 1 ≤ frame_ns
-        → run_time_ns clocks loss_run frame_ns cycle_ns cycles + run_time_ns clocks loss_run frame_ns cycle_ns cycles / 1000 + 1 + 2 * frame_ns
+        → run_time_ns clocks loss_run frame_ns cycle_ns cycles + run_time_ns clocks loss_run frame_ns cycle_ns cycles / 1000 + 1
+        + 2 * frame_ns
         ≤ run_frames clocks loss_run frame_ns cycle_ns cycles * frame_ns }
     ensures ticks { (ppm clocks loss_run frame_ns cycle_ns cycles k x : ℕ) → ppm ≤ 100 → 50000 ≤ frame_ns
         → AreTicksOf ppm ((run_frames clocks loss_run frame_ns cycle_ns cycles + 1) * period_fs frame_ns) k

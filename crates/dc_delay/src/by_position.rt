@@ -43,7 +43,8 @@ pub fn delays_by_latches_are_near()
         → (laps : ℕ → Port → ℕ) (g : ℕ)
         → ((r : ℕ) → r < length rows → measures r ≡ true → AreLatched (renumbered rows) g (position_of rows r) laps)
         → (r : ℕ) → r < length rows → timed r ≡ true
-        → (d : ℕ) × (slice_index_or (delay_list (rows_of (places rows) (kinds_of (renumbered rows))) there clocks laps (positions (length (places rows)))) (position_of rows r) None ≡ Some d)
+        → (d : ℕ) × (slice_index_or (delay_list (rows_of (places rows) (kinds_of (renumbered rows))) there clocks laps
+        (positions (length (places rows)))) (position_of rows r) None ≡ Some d)
         × IsNear (1000000 * d) (arrive rows r - arrive rows first) ((weight rows measures timed r * g + 1000000) / 2) }
 {}
 
@@ -58,6 +59,7 @@ pub fn delays_of_a_tree_are_near()
         → (laps : ℕ → Port → ℕ) (ppm : ℕ) → ppm ≤ 100 → round_trip rows < 10 ^ 13
         → ((r : ℕ) → r < length rows → measures r ≡ true → AreOfClock (renumbered rows) ppm (position_of rows r) laps)
         → (r : ℕ) → r < length rows → timed r ≡ true
-        → (d : ℕ) × (slice_index_or (delay_list (rows_of (places rows) (kinds_of (renumbered rows))) there clocks laps (positions (length (places rows)))) (position_of rows r) None ≡ Some d)
+        → (d : ℕ) × (slice_index_or (delay_list (rows_of (places rows) (kinds_of (renumbered rows))) there clocks laps
+        (positions (length (places rows)))) (position_of rows r) None ≡ Some d)
         × IsNear (1000000 * d) (arrive rows r - arrive rows first) (delay_bound ppm (weight rows measures timed r) (round_trip rows)) }
 {}

@@ -50,8 +50,8 @@ abbrev pub IsReport : Report → SegmentValue → List ℕ → Option BenchState
 IsReport report s text None = ⊥
 IsReport report s text (Some b) = IsReportOf report s text b
 
--- This is the first step of the run of this segment whose three tries are listed as lost, and the run ended there. The delays are near where
--- that is behind commissioning, and the frames that were sent are few.
+-- This is the first step of the run of this segment whose three tries are listed as lost, and the run ended there. The delays are
+-- near where that is after commissioning, and the frames that were sent are few.
 pub record IsLostBy (report : Report) (segment : SegmentValue) (step : Step) (bench : BenchState) : Type 0 where
   pub run : HasMade report segment bench (Err (Refused (Lost step)))
   pub losses : lost_step_of segment (goes_on report) ≡ Some step

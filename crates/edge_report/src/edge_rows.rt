@@ -116,7 +116,8 @@ fn put_edge<W: Write + Drop>(
     edge: &SlaveEdge,
 ) -> Result<(), NoMemory>
     requires { edge.now.position < length segment.now.rows }
-    ensures { OnOk result ((bytes : List ℕ) → Wrote W.contents writer.old bytes → Wrote W.contents writer.new (bytes ++ edge_row segment.now edge.now)) }
+    ensures { OnOk result ((bytes : List ℕ) → Wrote W.contents writer.old bytes
+        → Wrote W.contents writer.new (bytes ++ edge_row segment.now edge.now)) }
 {
     let shift_ns = total_shift(segment, edge);
     let row = slave(segment, edge.position);

@@ -52,7 +52,8 @@ are_activating s [] = false
 are_activating s (d ∷ ds) = is_activating s d || are_activating (slave_after s d) ds
 
 -- The slave's unit and edges are what these calls leave of a unit and a list, from an instant on.
-pub record IsRun (w : ℕ) (o : Oscillator) (start : ℕ) (unit : Option Armed) (edges : Kept) (calls : List Call) (m : Measuring) : Type 0 where
+pub record IsRun (w : ℕ) (o : Oscillator) (start : ℕ) (unit : Option Armed) (edges : Kept) (calls : List Call)
+    (m : Measuring) : Type 0 where
   pub width : width m.registers.kind ≡ w
   pub oscillator : m.timing.clock.osc ≡ o
   pub in_turn : AreInTurn o start calls
@@ -61,4 +62,5 @@ pub record IsRun (w : ℕ) (o : Oscillator) (start : ℕ) (unit : Option Armed) 
   pub edges_are : m.timing.edges ≡ list_after_calls w calls unit edges
 
 abbrev pub HasRun : ℕ → Oscillator → ℕ → Option Armed → Kept → List Call → Slave → Type 0
-HasRun w o start unit edges calls s = IfSome s.timing (λ m. IsRun w o start unit edges calls (record { registers = s.registers; timing = m }))
+HasRun w o start unit edges calls s =
+    IfSome s.timing (λ m. IsRun w o start unit edges calls (record { registers = s.registers; timing = m }))

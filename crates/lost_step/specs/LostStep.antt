@@ -30,8 +30,8 @@ abbrev pub asked_on : {A : Type 0} → Option ℕ → A → (ℕ → Result ℕ 
 asked_on None step next = Err step
 asked_on (Some b) step next = next b
 
--- Exchanges of these steps, of whatever script, one after another, of which the first has its first try at this number: the number behind them, or the first
--- step whose three tries are lost.
+-- Exchanges of these steps, of whatever script, one after another, of which the first has its first try at this number: the number
+-- after them, or the first step whose three tries are lost.
 unfoldable pub asked : {A : Type 0} → (ℕ → Bool) → ℕ → List A → Result ℕ A
 asked lost a [] = Ok a
 asked lost a (step ∷ rest) = asked_on (behind_tries lost a) step (λ b. asked lost b rest)

@@ -48,7 +48,8 @@ identified f = record { features = little_number 2 (data_at f 1); status = littl
 -- what a reply to Times tells
 abbrev pub latch_in : Bool → FrameValue → Latch
 latch_in wide f = record {
-  ports = little_number 4 (data_at f 0) ∷ little_number 4 (drop 4 (data_at f 0)) ∷ little_number 4 (drop 8 (data_at f 0)) ∷ little_number 4 (drop 12 (data_at f 0)) ∷ [];
+  ports = little_number 4 (data_at f 0) ∷ little_number 4 (drop 4 (data_at f 0)) ∷ little_number 4 (drop 8 (data_at f 0))
+      ∷ little_number 4 (drop 12 (data_at f 0)) ∷ [];
   unit = little_number (width wide) (data_at f 1);
 }
 
