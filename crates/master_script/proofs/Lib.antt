@@ -18,4 +18,5 @@ mod Worked
 mod Judging
 mod Sendings
 mod Calls
+mod Measured
 pub mod Exported
