@@ -32,3 +32,5 @@ pub use Rattle.master_script.proofs.Staying.{stays_kept}
 pub use Rattle.master_script.proofs.Stages.{drifts_told, start_told}
 -- How many frames a call sends that ends with Ok, and where the next phase begins.
 pub use Rattle.master_script.proofs.Calls.{settle_sends, arm_sends, run_sends, commission_done}
+-- Of a configuration the measured delays read the kinds alone.
+pub use Rattle.master_script.proofs.Measured.{delays_by_kinds, delay_by_kinds}

@@ -3,10 +3,11 @@ use Rattle.std.proofs.Common.{◌≡◌, refl, ℕ, ◌==◌, List, [], ◌∷�
 use Rattle.std.specs.Prelude.{if◌then◌else◌, option_map}
 use Rattle.ecat_frame.specs.Difference.{first_difference}
 use Rattle.ecat_frame.specs.FrameGrammar.{FrameValue}
-use Rattle.master_script.specs.Judged.{counters, miscounted, judged_by, judged, first_miscount, fault_by, reply_fault, refused_at}
+use Rattle.master_script.specs.Judged.{counters, miscounted, judged_by, judged}
+use Rattle.master_script.specs.ReplyFaults.{first_miscount, fault_by, reply_fault, refused_at}
 use Rattle.master_script.specs.declared.step.Step.{Step}
 use Rattle.master_script.specs.declared.step.Refusal.TheVariants.{Counter}
-use Rattle.master_script.specs.Judged.ReplyFault.{Miscounts}
+use Rattle.master_script.specs.ReplyFaults.ReplyFault.{Miscounts}
 
 counted : (step : Step) (expected counters : List ℕ) → miscounted step expected counters ≡ option_map (refused_at step) (first_miscount expected counters)
 counted step [] counters = refl

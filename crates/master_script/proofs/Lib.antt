@@ -19,4 +19,5 @@ mod Judging
 mod Faults
 mod Sendings
 mod Calls
+mod Measured
 pub mod Exported
