@@ -44,8 +44,10 @@ pub(crate) fn slaves(alloc: Global, segment: &Segment) -> Result<Vec<Slave>, NoM
 fn push(slaves: &mut Vec<Slave>, slave: Slave) -> Result<(), NoMemory>
     ensures { OnOk result (slaves.new.items ≡ slaves.old.items ++ slave ∷ []) }
 {
-    slaves.push(slave)?;
-    Ok(())
+    match slaves.push(slave) {
+        Ok(()) => Ok(()),
+        Err(_) => Err(NoMemory),
+    }
 }
 
 /// The frames that are lost.

@@ -22,4 +22,4 @@ returns-in-Ok c =
 pub returns : goal.returns
 returns c =
     let words = map string_bytes c.args.words.now in
-    record { is = none_found _ c.in-Err.error words c.in_ok-line.ensures c.in-Err.ensures.kinds (λ e. c.in_default-kind.not-OutOfMemory (c.kind.ensures ∙ e)); ranges = tt }
+    record { is = none_found _ c.in-Err.error words c.in_ok-line.ensures c.in-Err.ensures.kinds (λ e. c.in_default.not-OutOfMemory (c.kind.ensures ∙ e)); ranges = tt }
