@@ -11,7 +11,8 @@ use Rattle.segment_file.specs.Told.{IsSegmentText}
 
 -- where the words ask for a run of a legal file, the bench stands at the end of that run
 abbrev pub StandsAtEnd : List (List ℕ) → List ℕ → BenchState → Type 0
-StandsAtEnd words bytes b = (edges : Bool) (s : SegmentValue) → command_of words ≡ Some (Run edges) → IsSegmentText bytes s → HasRun s b (Ok tt)
+StandsAtEnd words bytes b =
+    (edges : Bool) (s : SegmentValue) → command_of words ≡ Some (Run edges) → IsSegmentText bytes s → HasRun s b (Ok tt)
 
 -- so it does behind Done, where there is one
 abbrev pub HoldsRun : List (List ℕ) → List ℕ → Outcome → Option BenchState → Type 0

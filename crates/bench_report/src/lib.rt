@@ -12,4 +12,4 @@ mod report;
 
 pub use delays::measured_delays;
 pub use edges::kept_edges;
-pub use report::{delay_table, drill_report, run_report};
+pub use report::{delays_of_bench, drill_report, run_report};

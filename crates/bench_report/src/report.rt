@@ -18,14 +18,12 @@ use std::alloc::Global;
 
 /// The table of delays of a bench whose master has commissioned the segment.
 #[tactic(auto, unfolding(crate::specs::Reports::table_text))]
-pub fn delay_table(alloc: Global, segment: &Segment, bench: &Bench) -> Result<Vec<u8>, NoMemory>
+pub fn delays_of_bench(alloc: Global, segment: &Segment, bench: &Bench) -> Result<Vec<u8>, NoMemory>
     requires legal { IsLegal segment.now }
     requires run { IsAtEnd segment.now None (commissioned segment.now) bench.now.wire bench.now.master (Ok tt) }
     ensures { IfOk result (λ text. text.items ≡ table_text segment.now bench.now) }
 {
-    let Ok(delays) = measured_delays(alloc, segment, bench) else {
-        return Err(NoMemory);
-    };
+    let delays = measured_delays(alloc, segment, bench)?;
     let master = bench.master();
     edge_report::delay_table(alloc, segment, &delays, master.sent(), master.lost())
 }
@@ -44,9 +42,7 @@ fn summary(
     requires told { edges.now ≡ edges_told segment.now bench.now.wire }
     ensures { IfOk result (λ text. text.items ≡ summary_text segment.now bench.now slave_lines) }
 {
-    let Ok(delays) = measured_delays(alloc, segment, bench) else {
-        return Err(NoMemory);
-    };
+    let delays = measured_delays(alloc, segment, bench)?;
     let master = bench.master();
     let start = master.start().unwrap_or(0);
     run_summary(
@@ -72,9 +68,7 @@ pub fn run_report(
     requires { HasRun segment.now bench.now (Ok tt) }
     ensures { IfOk result (λ text. text.items ≡ report_text segment.now bench.now with_rows) }
 {
-    let Ok(edges) = kept_edges(alloc, segment, bench) else {
-        return Err(NoMemory);
-    };
+    let edges = kept_edges(alloc, segment, bench)?;
     let text = summary(alloc, segment, bench, &edges, true)?;
     if with_rows {
         edges_csv_behind(text, segment, edges)
@@ -88,8 +82,6 @@ pub fn drill_report(alloc: Global, segment: &Segment, bench: &Bench) -> Result<V
     requires { HasRun segment.now bench.now (Ok tt) }
     ensures { IfOk result (λ text. text.items ≡ drill_text segment.now bench.now) }
 {
-    let Ok(edges) = kept_edges(alloc, segment, bench) else {
-        return Err(NoMemory);
-    };
+    let edges = kept_edges(alloc, segment, bench)?;
     summary(alloc, segment, bench, &edges, false)
 }

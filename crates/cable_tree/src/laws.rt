@@ -104,7 +104,8 @@ pub fn subtrees_stand_together()
         → take (length (subtree rows r)) (drop (position_of rows r) (order rows)) ≡ subtree rows r }
     ensures parts { (rows : List Row) → IsTree rows → (r : ℕ) → r < length rows
         → subtree rows r
-        ≡ r ∷ (behind (subtree rows) (child rows r P3) ++ behind (subtree rows) (child rows r P1) ++ behind (subtree rows) (child rows r P2)) }
+        ≡ r ∷ (behind (subtree rows) (child rows r P3) ++ behind (subtree rows) (child rows r P1)
+        ++ behind (subtree rows) (child rows r P2)) }
 {}
 
 /// The rows in frame order, with parents by position, are a tree again, with the same children, times and laps

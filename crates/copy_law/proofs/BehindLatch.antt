@@ -19,7 +19,7 @@ use Rattle.master_script.specs.Words.{Words, delay_at, offset_at}
 use Rattle.honest_slaves.proofs.Exported.{had_before, low_where}
 use Rattle.run_of_file.specs.MasterOfFile.{master_of}
 use Rattle.run_of_file.specs.RunOfFile.{RunEnd, armed, commissioned, end_of_run, ran, rounded_off, run_of, settled}
-use Rattle.run_of_file.proofs.Exported.{ran_on, IsFromStart, armed_from, commissioned_from, kept_by_runs, ran_from, settled_from}
+use Rattle.run_of_file.proofs.Exported.{ran_on, IsFromStart, armed_exchanges, commissioned_exchanges, kept_by_runs, ran_exchanges, settled_exchanges}
 use Rattle.segment_file.specs.Legal.{IsLegal}
 use Rattle.segment_file.specs.Segment.{SegmentValue}
 use Rattle.segment_start.specs.Start.{started_segment}
@@ -74,22 +74,22 @@ module _ (s : SegmentValue) (legal : IsLegal s) (first : RunEnd) (was : commissi
 
   behind : (run : RunEnd) → IsFromStart s run → HoldAlike 0x0920 8 first.state.slaves run.state.slaves → HoldAlike 0x0928 4 first.state.slaves run.state.slaves → AreSet s words run.state.slaves
   behind run from offset delay =
-      are_set_on s words first.state.slaves run.state.slaves (record { fixed = fixed_run s run from ∙ sym (fixed_run s first (commissioned_from s first was)); offset = offset; delay = delay })
+      are_set_on s words first.state.slaves run.state.slaves (record { fixed = fixed_run s run from ∙ sym (fixed_run s first (commissioned_exchanges s first was)); offset = offset; delay = delay })
       (commissioned_set s legal first was ok)
 
   pub settled_set : (run : RunEnd) → settled s ≡ Some run → AreSet s words run.state.slaves
   settled_set run is =
-      behind run (settled_from s run is) (settled_holds s legal 0x0920 8 (plain_held 0x0920 8 (offset_plain 8 (omega arith))) offset_untouched first run was is)
+      behind run (settled_exchanges s run is) (settled_holds s legal 0x0920 8 (plain_held 0x0920 8 (offset_plain 8 (omega arith))) offset_untouched first run was is)
       (settled_holds s legal 0x0928 4 (plain_held 0x0928 4 delay_plain) delay_untouched first run was is)
 
   pub armed_set : (run : RunEnd) → armed s ≡ Some run → AreSet s words run.state.slaves
   armed_set run is =
-      behind run (armed_from s run is) (armed_holds s legal 0x0920 8 (plain_held 0x0920 8 (offset_plain 8 (omega arith))) offset_untouched first run was is)
+      behind run (armed_exchanges s run is) (armed_holds s legal 0x0920 8 (plain_held 0x0920 8 (offset_plain 8 (omega arith))) offset_untouched first run was is)
       (armed_holds s legal 0x0928 4 (plain_held 0x0928 4 delay_plain) delay_untouched first run was is)
 
   pub ran_set : (run : RunEnd) → ran s ≡ Some run → AreSet s words run.state.slaves
   ran_set run is =
-      behind run (ran_from s run is) (ran_holds s legal 0x0920 8 (plain_held 0x0920 8 (offset_plain 8 (omega arith))) offset_untouched first run was is)
+      behind run (ran_exchanges s run is) (ran_holds s legal 0x0920 8 (plain_held 0x0920 8 (offset_plain 8 (omega arith))) offset_untouched first run was is)
       (ran_holds s legal 0x0928 4 (plain_held 0x0928 4 delay_plain) delay_untouched first run was is)
 
   -- clocks that go on to the end of the run

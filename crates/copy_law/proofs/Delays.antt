@@ -6,7 +6,7 @@ use Rattle.dc_bounds.specs.TickBounds.{jump, tick_gap}
 use Rattle.dc_bounds.specs.TickFacts.{IsNear}
 use Rattle.master_script.specs.Progress.{progress}
 use Rattle.master_script.specs.Words.{Words, delay_at, delays_of}
-use Rattle.segment_bounds.specs.Bounds.{delay_at as true_delay_at, delay_bound_at}
+use Rattle.segment_bounds.specs.Bounds.{wire_delay_at, delay_bound_at}
 use Rattle.segment_bounds.proofs.Exported.{delay_short, small_copy_bound}
 use Rattle.segment_file.specs.Legal.{IsLegal}
 use Rattle.segment_file.specs.Segment.{SegmentValue, row_at}
@@ -32,6 +32,6 @@ module _ (s : SegmentValue) (legal : IsLegal s) (run : RunEnd) (is : commissione
       by (Some d) e =
           let within = row_within s legal p low in
           let silence = (s.head.loss_run + 1) * period_fs s.head.frame_ns in
-          few d (true_delay_at s (row_at s p)) (delay_bound_at s (row_at s p)) (jump s.head.ppm silence) (tick_gap s.head.ppm (silence + true_delay_at s (row_at s p))) s.head.frame_ns
+          few d (wire_delay_at s (row_at s p)) (delay_bound_at s (row_at s p)) (jump s.head.ppm silence) (tick_gap s.head.ppm (silence + wire_delay_at s (row_at s p))) s.head.frame_ns
           (commissioned_near s legal run is ok p d low (ap (λ ds. slice_index_or ds p None) (kept_delays s legal run is ok) ∙ e)) (delay_short s (row_at s p) legal within)
           (small_copy_bound s (row_at s p) legal within) legal.head.frame_ns.1

@@ -36,7 +36,7 @@ use Rattle.master_script.proofs.Exported.{progress_sent, stays_kept, wants, Step
 use Rattle.honest_slaves.specs.Mindful.{AreMindful}
 use Rattle.run_of_file.specs.MasterOfFile.{master_of}
 use Rattle.run_of_file.specs.RunOfFile.{frames_given}
-use Rattle.run_of_file.proofs.Exported.{commissioned_on, commissioned_from, kept_by_runs, as_many_kinds, few_rows}
+use Rattle.run_of_file.proofs.Exported.{commissioned_on, commissioned_exchanges, kept_by_runs, as_many_kinds, few_rows}
 use Rattle.run_counts.specs.OnTheWay.{StandsAfter}
 use Rattle.run_counts.proofs.Exported.{master_frame_ns, some_kinds, stands_after}
 use Rattle.segment_file.specs.Legal.{IsLegal}
@@ -127,7 +127,7 @@ module _ (s : SegmentValue) (legal : IsLegal s) (k : ℕ) (t : SegmentState) (e 
   stands : StandsAfter s (progress (master_of s) behind).sent (progress (master_of s) behind).drifts t
   stands =
       stands_after s legal behind t asked_for.scripted
-      (runs_then segment_step f.first.exchanges f.before (Some (started_segment s)) (Some f.first.state) (Some t) (commissioned_from s f.first f.commissioned) f.led)
+      (runs_then segment_step f.first.exchanges f.before (Some (started_segment s)) (Some f.first.state) (Some t) (commissioned_exchanges s f.first f.commissioned) f.led)
 
   pub leaves : leaves_at t e.wait_ns ≡ sent_at s f.first k
   leaves =
@@ -166,7 +166,7 @@ module _ (s : SegmentValue) (legal : IsLegal s) (k : ℕ) (t : SegmentState) (e 
   fixed : map fixed_part t.slaves ≡ map fixed_part (started_segment s).slaves
   fixed =
       kept_by_runs (λ (u : SegmentState). map fixed_part u.slaves ≡ map fixed_part (started_segment s).slaves) (λ u wait_ns g h. (same_step u wait_ns g).slaves ∙ h) behind (started_segment s) t
-      (runs_then segment_step f.first.exchanges f.before (Some (started_segment s)) (Some f.first.state) (Some t) (commissioned_from s f.first f.commissioned) f.led) refl
+      (runs_then segment_step f.first.exchanges f.before (Some (started_segment s)) (Some f.first.state) (Some t) (commissioned_exchanges s f.first f.commissioned) f.led) refl
 
   pub clock_there : (p : ℕ) (v : Slave) → slice_get t.slaves p ≡ Some v → has_clock (kind_at s p) ≡ true → (m : Timing) × (v.timing ≡ Some m)
   unfolding slave_of

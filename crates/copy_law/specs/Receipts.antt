@@ -13,6 +13,7 @@ use Rattle.frame_pass.specs.SegmentState.{SegmentState, leaves_at, segment_step}
 use Rattle.frame_pass.specs.SlaveState.{Slave, Timing}
 use Rattle.honest_slaves.specs.FileSlaves.{kind_at}
 use Rattle.local_clock.specs.Reading.{Happening, received}
+use Rattle.lost_step.specs.LostStep.{comes_to}
 use Rattle.run_of_file.specs.RunOfFile.{RunEnd, commissioned, ran}
 use Rattle.segment_file.specs.Segment.{SegmentValue, reference_row, tree_rows}
 use Rattle.loss_list.specs.Losses.{loss_at}
@@ -41,11 +42,6 @@ pub record IsReference (s : SegmentValue) (r : ℕ) : Type 0 where
   pub row : ℕ
   pub found : reference_row s.rows ≡ Some row
   pub position : r ≡ position_of (tree_rows s.rows) row
-
--- a frame comes to a position: it is not lost, or it is lost behind that position
-abbrev pub comes_to : Option ℕ → ℕ → Bool
-comes_to None p = true
-comes_to (Some after) p = nat_lt p after
 
 -- at a position there is a clock, and not the reference, and drift frame k comes to it
 abbrev pub receives : SegmentValue → ℕ → ℕ → ℕ → Bool

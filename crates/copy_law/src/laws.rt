@@ -73,32 +73,42 @@ pub fn corrections_stay()
 /// times that it was told, and every other slave holds 0 and 0, as all did at the start. So it stays after each later phase, and
 /// to the end of the run, however that ends.
 pub fn offsets_are_set()
-    ensures start { (s : SegmentValue) (p : ℕ) (v : Slave) → IsLegal s → slice_get (started_segment s).slaves p ≡ Some v → HoldsSet 0 0 v.registers }
+    ensures start { (s : SegmentValue) (p : ℕ) (v : Slave) → IsLegal s → slice_get (started_segment s).slaves p ≡ Some v
+        → HoldsSet 0 0 v.registers }
     ensures commissioned { (s : SegmentValue) (run : RunEnd) → IsCommissioned s run → AreSet s (words_after s run) run.state.slaves }
-    ensures settled { (s : SegmentValue) (first run : RunEnd) → IsCommissioned s first → settled s ≡ Some run → AreSet s (words_after s first) run.state.slaves }
-    ensures armed { (s : SegmentValue) (first run : RunEnd) → IsCommissioned s first → armed s ≡ Some run → AreSet s (words_after s first) run.state.slaves }
-    ensures ran { (s : SegmentValue) (first run : RunEnd) → IsCommissioned s first → ran s ≡ Some run → AreSet s (words_after s first) run.state.slaves }
-    ensures whole { (s : SegmentValue) (first run : RunEnd) → IsCommissioned s first → run_of s ≡ Some run → AreSet s (words_after s first) run.state.slaves }
+    ensures settled { (s : SegmentValue) (first run : RunEnd) → IsCommissioned s first → settled s ≡ Some run
+        → AreSet s (words_after s first) run.state.slaves }
+    ensures armed { (s : SegmentValue) (first run : RunEnd) → IsCommissioned s first → armed s ≡ Some run
+        → AreSet s (words_after s first) run.state.slaves }
+    ensures ran { (s : SegmentValue) (first run : RunEnd) → IsCommissioned s first → ran s ≡ Some run
+        → AreSet s (words_after s first) run.state.slaves }
+    ensures whole { (s : SegmentValue) (first run : RunEnd) → IsCommissioned s first → run_of s ≡ Some run
+        → AreSet s (words_after s first) run.state.slaves }
 {}
 
 /// The offset of a clock is the epoch and the measured delay, less what the clock showed when the Latch that came back arrived at
 /// it, as a word of the clock's width. The reference has the delay 0.
 pub fn offsets_come_of_readings()
-    ensures offset { (s : SegmentValue) (run : RunEnd) (p : ℕ) → IsCommissioned s run → p < length s.rows → clock_at s.rows (row_at s p) ≡ true
+    ensures offset { (s : SegmentValue) (run : RunEnd) (p : ℕ) → IsCommissioned s run → p < length s.rows
+        → clock_at s.rows (row_at s p) ≡ true
         → offset_at (master_of s) (words_after s run) p
         ≡ offset (width (row_there s p).kind) s.head.epoch_ns (delay_at (master_of s) (words_after s run) p)
         (shown_at (row_there s p) (latch_arrival s (words_after s run) p)) }
-    ensures reference { (s : SegmentValue) (run : RunEnd) (r : ℕ) → IsCommissioned s run → (words_after s run).reference ≡ Some r → delay_at (master_of s) (words_after s run) r ≡ 0 }
+    ensures reference { (s : SegmentValue) (run : RunEnd) (r : ℕ) → IsCommissioned s run → (words_after s run).reference ≡ Some r
+        → delay_at (master_of s) (words_after s run) r ≡ 0 }
 {}
 
 /// After commissioning, and as long as no frame brings a clock anything, its local copy is the epoch, its measured delay, and 10 ns
 /// for each of its ticks since the Latch that came back arrived at it. Its system time is the same without the delay. Both are words
 /// of the clock's width.
 pub fn system_times_begin_at_the_epoch()
-    ensures copy { (s : SegmentValue) (run : RunEnd) (p : ℕ) (v : Slave) (m : Timing) (t : ℕ) → IsCommissioned s run → IsSinceLatch s run p v m t
+    ensures copy { (s : SegmentValue) (run : RunEnd) (p : ℕ) (v : Slave) (m : Timing) (t : ℕ) → IsCommissioned s run
+        → IsSinceLatch s run p v m t
         → copy_at (width (row_there s p).kind) m.clock [] (held_offset v.registers) t
-        ≡ (s.head.epoch_ns + delay_at (master_of s) (words_after s run) p + counted_ns s (words_after s run) p t) % 2 ^ width (row_there s p).kind }
-    ensures time { (s : SegmentValue) (run : RunEnd) (p : ℕ) (v : Slave) (m : Timing) (t : ℕ) → IsCommissioned s run → IsSinceLatch s run p v m t
+        ≡ (s.head.epoch_ns + delay_at (master_of s) (words_after s run) p + counted_ns s (words_after s run) p t)
+        % 2 ^ width (row_there s p).kind }
+    ensures time { (s : SegmentValue) (run : RunEnd) (p : ℕ) (v : Slave) (m : Timing) (t : ℕ) → IsCommissioned s run
+        → IsSinceLatch s run p v m t
         → system_time (measuring_at t (record { registers = v.registers; timing = m }))
         ≡ (s.head.epoch_ns + counted_ns s (words_after s run) p t) % 2 ^ width (row_there s p).kind }
 {}
@@ -117,5 +127,6 @@ pub fn drift_frames_bring_times()
         → brought t e p v ≡ (if receives s r k p then receipt (sent_at s frame.first k) v reference ∷ [] else []) }
     ensures often { (s : SegmentValue) (first p r : ℕ) → IsLegal s → has_clock (kind_at s p) ≡ true → p ≢ r
         → (k : ℕ) × (first ≤ k) × (k ≤ first + s.head.loss_run) × (receives s r k p ≡ true) }
-    ensures behind { (s : SegmentValue) (p r : ℕ) → IsLegal s → IsReference s r → p < length s.rows → has_clock (kind_at s p) ≡ true → p ≢ r → r < p }
+    ensures behind { (s : SegmentValue) (p r : ℕ) → IsLegal s → IsReference s r → p < length s.rows → has_clock (kind_at s p) ≡ true → p ≢ r
+        → r < p }
 {}

@@ -1,9 +1,16 @@
+use std::alloc::AllocError;
 use thiserror::Error;
 
 /// Memory was refused.
 #[derive(Clone, Copy, Debug, PartialEq, Eq, Error)]
 #[error("no memory")]
 pub struct NoMemory;
+
+impl From<AllocError> for NoMemory {
+    fn from(_: AllocError) -> NoMemory {
+        NoMemory
+    }
+}
 
 /// One read of a source failed, and took nothing.
 #[derive(Clone, Copy, Debug, PartialEq, Eq, Error)]

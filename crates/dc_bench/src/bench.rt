@@ -1,4 +1,5 @@
 ghost use Rattle.std.specs.Prelude.{◌≡◌, ◌⊎◌, ℕ, ◌≤◌, Some, None, OnOk, OnErr, Err};
+ghost use Rattle.dc_master.specs.Answered.{IsAnswered};
 ghost use Rattle.ecat_link.specs.RoseBy.{RoseBy};
 ghost use Rattle.ecat_link.specs.Serves.{Serves};
 ghost use Rattle.master_script.specs.Causes.{AreRefused, IsCause};
@@ -44,20 +45,17 @@ impl Bench {
     /// `Master::commission` over the wire.
     pub fn commission(&mut self) -> Result<(), MasterError>
         requires { (self.old.master.stage ≡ Stage.Fresh) ⊎ (self.old.master.stage ≡ Stage.Spent) }
-        ensures config { self.new.master.config ≡ self.old.master.config }
+        ensures answered { IsAnswered Stage.Commissioned self.old.master self.new.master result }
         ensures spent { (r : Refusal) → self.old.master.refusal ≡ Some r → (self.new ≡ self.old) × (result ≡ Err (Error.Spent r)) }
-        ensures spent_before { (r : Refusal) → result ≡ Err (Error.Spent r) → self.old.master.refusal ≡ Some r }
         ensures serves { self.old.master.refusal ≡ None → Serves segment_step (script self.old.master.config Commission)
-            (StandsFor None self.old.master) (Some self.old.wire) (Some self.new.wire) (Ends self.old.master.config Commission self.new.master result) }
-        ensures stage { OnOk result (self.new.master.stage ≡ Stage.Commissioned) }
-        ensures refusal { OnOk result (self.new.master.refusal ≡ None) }
-        ensures ended { OnErr result (self.new.master.stage ≡ Stage.Spent) }
-        ensures refused { (r : Refusal) → result ≡ Err (Error.Refused r) → self.new.master.refusal ≡ Some r }
-        ensures few { self.new.master.sent ≤ 203097 }
+            (StandsFor None self.old.master) (Some self.old.wire) (Some self.new.wire)
+            (Ends self.old.master.config Commission self.new.master result) }
         ensures later { self.old.wire.lost ≤ self.new.wire.lost }
         ensures lost { (step : Step) → result ≡ Err (Error.Refused (Reason.Lost step)) → RoseBy 3 self.old.wire.lost self.new.wire.lost }
-        ensures caused { (r : Refusal) → result ≡ Err (Error.Refused r) → IsCause self.old.master.config Commission self.new.master.drifts self.new.master.words r }
-        ensures judged { (r : Refusal) → self.old.master.refusal ≡ None → AreRefused self.old.master.config self.new.master.words.slaves r → result ≡ Err (Error.Refused r) }
+        ensures caused { (r : Refusal) → result ≡ Err (Error.Refused r)
+            → IsCause self.old.master.config Commission self.new.master.drifts self.new.master.words r }
+        ensures judged { (r : Refusal) → self.old.master.refusal ≡ None → AreRefused self.old.master.config self.new.master.words.slaves r
+            → result ≡ Err (Error.Refused r) }
     {
         self.master.commission(&mut self.wire)
     }
@@ -65,19 +63,16 @@ impl Bench {
     /// `Master::settle` over the wire.
     pub fn settle(&mut self) -> Result<(), MasterError>
         requires { (self.old.master.stage ≡ Stage.Commissioned) ⊎ (self.old.master.stage ≡ Stage.Spent) }
-        ensures config { self.new.master.config ≡ self.old.master.config }
+        ensures answered { IsAnswered Stage.Settled self.old.master self.new.master result }
         ensures spent { (r : Refusal) → self.old.master.refusal ≡ Some r → (self.new ≡ self.old) × (result ≡ Err (Error.Spent r)) }
-        ensures spent_before { (r : Refusal) → result ≡ Err (Error.Spent r) → self.old.master.refusal ≡ Some r }
         ensures serves { self.old.master.refusal ≡ None → Serves segment_step (script self.old.master.config Settle)
-            (StandsFor None self.old.master) (Some self.old.wire) (Some self.new.wire) (Ends self.old.master.config Settle self.new.master result) }
-        ensures stage { OnOk result (self.new.master.stage ≡ Stage.Settled) }
-        ensures refusal { OnOk result (self.new.master.refusal ≡ None) }
-        ensures ended { OnErr result (self.new.master.stage ≡ Stage.Spent) }
-        ensures refused { (r : Refusal) → result ≡ Err (Error.Refused r) → self.new.master.refusal ≡ Some r }
-        ensures few { self.new.master.sent ≤ 203097 }
+            (StandsFor None self.old.master) (Some self.old.wire) (Some self.new.wire)
+            (Ends self.old.master.config Settle self.new.master result) }
         ensures later { self.old.wire.lost ≤ self.new.wire.lost }
-        ensures lost { (step : Step) → result ≡ Err (Error.Refused (Reason.Lost step)) → RoseBy (settle_frames self.old.master.config) self.old.wire.lost self.new.wire.lost }
-        ensures caused { (r : Refusal) → result ≡ Err (Error.Refused r) → IsCause self.old.master.config Settle self.new.master.drifts self.new.master.words r }
+        ensures lost { (step : Step) → result ≡ Err (Error.Refused (Reason.Lost step))
+            → RoseBy (settle_frames self.old.master.config) self.old.wire.lost self.new.wire.lost }
+        ensures caused { (r : Refusal) → result ≡ Err (Error.Refused r)
+            → IsCause self.old.master.config Settle self.new.master.drifts self.new.master.words r }
     {
         self.master.settle(&mut self.wire)
     }
@@ -85,19 +80,15 @@ impl Bench {
     /// `Master::arm` over the wire.
     pub fn arm(&mut self) -> Result<(), MasterError>
         requires { (self.old.master.stage ≡ Stage.Settled) ⊎ (self.old.master.stage ≡ Stage.Spent) }
-        ensures config { self.new.master.config ≡ self.old.master.config }
+        ensures answered { IsAnswered Stage.Armed self.old.master self.new.master result }
         ensures spent { (r : Refusal) → self.old.master.refusal ≡ Some r → (self.new ≡ self.old) × (result ≡ Err (Error.Spent r)) }
-        ensures spent_before { (r : Refusal) → result ≡ Err (Error.Spent r) → self.old.master.refusal ≡ Some r }
         ensures serves { self.old.master.refusal ≡ None → Serves segment_step (script self.old.master.config Arm)
-            (StandsFor None self.old.master) (Some self.old.wire) (Some self.new.wire) (Ends self.old.master.config Arm self.new.master result) }
-        ensures stage { OnOk result (self.new.master.stage ≡ Stage.Armed) }
-        ensures refusal { OnOk result (self.new.master.refusal ≡ None) }
-        ensures ended { OnErr result (self.new.master.stage ≡ Stage.Spent) }
-        ensures refused { (r : Refusal) → result ≡ Err (Error.Refused r) → self.new.master.refusal ≡ Some r }
-        ensures few { self.new.master.sent ≤ 203097 }
+            (StandsFor None self.old.master) (Some self.old.wire) (Some self.new.wire)
+            (Ends self.old.master.config Arm self.new.master result) }
         ensures later { self.old.wire.lost ≤ self.new.wire.lost }
         ensures lost { (step : Step) → result ≡ Err (Error.Refused (Reason.Lost step)) → RoseBy 3 self.old.wire.lost self.new.wire.lost }
-        ensures caused { (r : Refusal) → result ≡ Err (Error.Refused r) → IsCause self.old.master.config Arm self.new.master.drifts self.new.master.words r }
+        ensures caused { (r : Refusal) → result ≡ Err (Error.Refused r)
+            → IsCause self.old.master.config Arm self.new.master.drifts self.new.master.words r }
     {
         self.master.arm(&mut self.wire)
     }
@@ -106,19 +97,15 @@ impl Bench {
     pub fn run(&mut self, frames: u32) -> Result<(), MasterError>
         requires stage { (self.old.master.stage ≡ Stage.Armed) ⊎ (self.old.master.stage ≡ Stage.Spent) }
         requires frames { frames ≤ 100000 }
-        ensures config { self.new.master.config ≡ self.old.master.config }
+        ensures answered { IsAnswered Stage.Ended self.old.master self.new.master result }
         ensures spent { (r : Refusal) → self.old.master.refusal ≡ Some r → (self.new ≡ self.old) × (result ≡ Err (Error.Spent r)) }
-        ensures spent_before { (r : Refusal) → result ≡ Err (Error.Spent r) → self.old.master.refusal ≡ Some r }
         ensures serves { self.old.master.refusal ≡ None → Serves segment_step (script self.old.master.config (Run frames))
-            (StandsFor None self.old.master) (Some self.old.wire) (Some self.new.wire) (Ends self.old.master.config (Run frames) self.new.master result) }
-        ensures stage { OnOk result (self.new.master.stage ≡ Stage.Ended) }
-        ensures refusal { OnOk result (self.new.master.refusal ≡ None) }
-        ensures ended { OnErr result (self.new.master.stage ≡ Stage.Spent) }
-        ensures refused { (r : Refusal) → result ≡ Err (Error.Refused r) → self.new.master.refusal ≡ Some r }
-        ensures few { self.new.master.sent ≤ 203097 }
+            (StandsFor None self.old.master) (Some self.old.wire) (Some self.new.wire)
+            (Ends self.old.master.config (Run frames) self.new.master result) }
         ensures later { self.old.wire.lost ≤ self.new.wire.lost }
         ensures lost { (step : Step) → result ≡ Err (Error.Refused (Reason.Lost step)) → ⊥ }
-        ensures caused { (r : Refusal) → result ≡ Err (Error.Refused r) → IsCause self.old.master.config (Run frames) self.new.master.drifts self.new.master.words r }
+        ensures caused { (r : Refusal) → result ≡ Err (Error.Refused r)
+            → IsCause self.old.master.config (Run frames) self.new.master.drifts self.new.master.words r }
     {
         self.master.run(&mut self.wire, frames)
     }

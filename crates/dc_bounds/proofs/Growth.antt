@@ -10,7 +10,7 @@ use Rattle.dc_bounds.specs.LockNumbers.{period_fs}
 use Rattle.dc_bounds.specs.DelayBound.{delay_bound}
 use Rattle.dc_bounds.specs.CopyBound.{copy_bound}
 
-quotients_rise : (a b g : ℕ) → 0 < g → a ≤ b → a / g ≤ b / g
+pub quotients_rise : (a b g : ℕ) → 0 < g → a ≤ b → a / g ≤ b / g
 quotients_rise a b g some h = let low = div-mul-le_self a g in le-div (a / g) b g some (omega (arith, low))
 
 pub tick_gap_rises : (ppm l m : ℕ) → ppm ≤ 100 → l ≤ m → tick_gap ppm l ≤ tick_gap ppm m

@@ -7,6 +7,7 @@ mod ByPosition
 mod WeightSize
 mod Leading
 mod Locking
+mod Drawing
 mod RunLength
 mod Weightless
 mod FirstClock

@@ -4,5 +4,6 @@ pub mod CopyBound
 pub mod DelayBound
 pub mod RunNumbers
 pub mod TickFacts
+pub mod Drawing
 pub mod Weight
 pub mod Measurable

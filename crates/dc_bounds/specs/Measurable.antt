@@ -22,7 +22,8 @@ is_measured_step measures branches higher (Some a) = measures a.row || (not (bra
 
 unfoldable pub is_measured_within : List Row → (ℕ → Bool) → ℕ → ℕ → Bool
 is_measured_within rows measures zero r = false
-is_measured_within rows measures (suc steps) r = is_measured_step measures (branches rows) (is_measured_within rows measures steps) (above rows r)
+is_measured_within rows measures (suc steps) r =
+    is_measured_step measures (branches rows) (is_measured_within rows measures steps) (above rows r)
 
 -- the slave has a measuring parent, and no slave between the two has more than one child
 abbrev pub is_measurable : List Row → (ℕ → Bool) → ℕ → Bool

@@ -20,7 +20,8 @@ pub fn measured_by_position()
         → (r : ℕ) → r < length rows
         → is_measurable (renumbered rows) there (position_of rows r) ≡ is_measurable rows measures r }
     ensures unmeasurable { (rows : List Row) → IsTree rows → All IsRow rows → (measures there : ℕ → Bool) → IsByPosition rows measures there
-        → unmeasurable (renumbered rows) there (order (renumbered rows)) ≡ option_map (position_of rows) (unmeasurable rows measures (order rows)) }
+        → unmeasurable (renumbered rows) there (order (renumbered rows))
+        ≡ option_map (position_of rows) (unmeasurable rows measures (order rows)) }
 {}
 
 /// They have the same reference, and the same weights.

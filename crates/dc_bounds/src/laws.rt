@@ -1,6 +1,7 @@
 //! Laws over the definitions alone, for proofs of the layers above.
 
-ghost use Rattle.std.specs.Prelude.{◌≡◌, ◌↔◌, ℕ, suc, ◌+◌, ◌-◌, ◌*◌, ◌/◌, ◌^◌, ◌<◌, ◌≤◌, min, ◌⊎◌, pos, ◌≤ℤ◌, Bool, true, Some, None, List, length};
+ghost use Rattle.std.specs.Prelude.{◌≡◌, ◌↔◌, ℕ, suc, ◌+◌, ◌-◌, ◌*◌, ◌/◌, ◌^◌, ◌<◌, ◌≤◌, min, ◌⊎◌, Bool, true, Some, None, List, length};
+ghost use Rattle.std.specs.Prelude.{ℤ, pos, ◌+ℤ◌, ◌-ℤ◌, ◌≤ℤ◌, unsigned_abs};
 ghost use Rattle.std.specs.List.{All};
 ghost use Rattle.osc_clock.specs.Ticks.{Oscillator, IsRunning, ticks};
 ghost use Rattle.cable_tree.specs.PathSums.{arrive};
@@ -9,6 +10,7 @@ ghost use Rattle.cable_tree.specs.Segment.{IsSegment, IsTree};
 ghost use Rattle.dc_bounds.specs.TickBounds.{tick_fs, tick_gap, count_gap, least_ticks, jump};
 ghost use Rattle.dc_bounds.specs.TickFacts.{AreTicksOf, IsNear, IsWithin};
 ghost use Rattle.dc_bounds.specs.LockNumbers.{lock_count, lock_falls, lock_step, period_fs, reach_fs, silence_fs, sure_fall, ticks_to_correction};
+ghost use Rattle.dc_bounds.specs.Drawing.{IsDrawn};
 ghost use Rattle.dc_bounds.specs.Weight.{reference, weight, weight_below};
 ghost use Rattle.dc_bounds.specs.DelayBound.{delay_bound};
 ghost use Rattle.dc_bounds.specs.CopyBound.{copy_bound, window};
@@ -54,8 +56,10 @@ pub fn quarter_period()
 /// In a segment of at most 256 slaves no way down weighs more than 512, and no slave more than 1024,
 /// whatever slaves measure and are clocks.
 pub fn weights_are_few()
-    ensures way { (rows : List Row) (measures : ℕ → Bool) (c r : ℕ) → IsSegment rows → r < length rows → weight_below rows measures c r ≤ 512 }
-    ensures weight { (rows : List Row) (measures timed : ℕ → Bool) (r : ℕ) → IsSegment rows → r < length rows → weight rows measures timed r ≤ 1024 }
+    ensures way { (rows : List Row) (measures : ℕ → Bool) (c r : ℕ) → IsSegment rows → r < length rows
+        → weight_below rows measures c r ≤ 512 }
+    ensures weight { (rows : List Row) (measures timed : ℕ → Bool) (r : ℕ) → IsSegment rows → r < length rows
+        → weight rows measures timed r ≤ 1024 }
 {}
 
 /// The weight and the delay bound are 0 at the reference, and at no other row: for all rows, whatever
@@ -65,7 +69,8 @@ pub fn reference_has_no_weight()
         → (weight rows measures timed r ≡ 0) ↔ (r ≡ q) }
     ensures bound { (ppm : ℕ) (rows : List Row) (measures timed : ℕ → Bool) (q r round_trip : ℕ) → reference rows timed ≡ Some q
         → (delay_bound ppm (weight rows measures timed r) round_trip ≡ 0) ↔ (r ≡ q) }
-    ensures no_clock { (rows : List Row) (measures timed : ℕ → Bool) (r : ℕ) → reference rows timed ≡ None → weight rows measures timed r ≡ 0 }
+    ensures no_clock { (rows : List Row) (measures timed : ℕ → Bool) (r : ℕ) → reference rows timed ≡ None
+        → weight rows measures timed r ≡ 0 }
 {}
 
 /// The reference is a slave of the tree, and a clock, and a frame arrives at no clock before it.
@@ -118,12 +123,43 @@ pub fn differences_fall()
         ⊎ (size (suc j) + sure_fall ppm frame_ns speed loss_run ≤ size j))
         → (j : ℕ) → j < count → (size j ≤ jump ppm (silence_fs loss_run frame_ns))
         ⊎ (size j + j * sure_fall ppm frame_ns speed loss_run ≤ jump ppm reach) }
-    ensures locked { (ppm frame_ns speed loss_run reach : ℕ) (frame size : ℕ → ℕ) (count : ℕ) → pos 1 ≤ℤ lock_step ppm frame_ns speed loss_run
+    ensures locked { (ppm frame_ns speed loss_run reach : ℕ) (frame size : ℕ → ℕ) (count : ℕ)
+        → pos 1 ≤ℤ lock_step ppm frame_ns speed loss_run
         → frame 0 ≤ loss_run + 1 → ((j : ℕ) → suc j < count → frame (suc j) ≤ frame j + (loss_run + 1))
         → size 0 ≤ jump ppm reach
         → ((j : ℕ) → suc j < count → (size (suc j) ≤ jump ppm (silence_fs loss_run frame_ns))
         ⊎ (size (suc j) + sure_fall ppm frame_ns speed loss_run ≤ size j))
         → (j : ℕ) → j < count → lock_count ppm frame_ns speed loss_run reach < frame j → size j ≤ jump ppm (silence_fs loss_run frame_ns) }
+{}
+
+/// The same, one difference at a time: of the first one (`first`), of each further one, by the one before it
+/// (`next`), and what follows of one that comes after frame K (`locked`), and of every one (`within`).
+pub fn clocks_are_drawn()
+    ensures first { (ppm frame_ns speed loss_run reach frame size : ℕ) → frame ≤ loss_run + 1 → size ≤ jump ppm reach
+        → IsDrawn ppm frame_ns speed loss_run reach 0 frame size }
+    ensures next { (ppm frame_ns speed loss_run reach before frame size k left more : ℕ) → ppm ≤ 100
+        → pos 1 ≤ℤ lock_step ppm frame_ns speed loss_run → 1 ≤ k → k ≤ loss_run + 1
+        → IsDrawn ppm frame_ns speed loss_run reach before frame size
+        → left + min size (least_ticks ppm (k * period_fs frame_ns) / ticks_to_correction speed) ≤ size
+        → more ≤ left + jump ppm (k * period_fs frame_ns)
+        → IsDrawn ppm frame_ns speed loss_run reach (before + 1) (frame + k) more }
+    ensures locked { (ppm frame_ns speed loss_run reach before frame size : ℕ) → pos 1 ≤ℤ lock_step ppm frame_ns speed loss_run
+        → IsDrawn ppm frame_ns speed loss_run reach before frame size → lock_count ppm frame_ns speed loss_run reach < frame
+        → size ≤ jump ppm (silence_fs loss_run frame_ns) }
+    ensures within { (ppm frame_ns speed loss_run reach before frame size : ℕ) → jump ppm (silence_fs loss_run frame_ns) ≤ jump ppm reach
+        → IsDrawn ppm frame_ns speed loss_run reach before frame size → size ≤ jump ppm reach }
+{}
+
+/// From one difference to the next, of numbers alone: after one length, with n ticks here and m at the
+/// reference, the two clocks are apart by at most what is left of the difference, and Q of the length
+/// (`drift`). What is left and the corrections of nmin ticks are together at most the difference (`left`).
+pub fn next_differences()
+    ensures drift { (ppm l here there n m : ℕ) (left : ℤ) → AreTicksOf ppm l n → AreTicksOf ppm l m
+        → pos here ≡ pos (there + 10 * n) +ℤ left
+        → unsigned_abs (pos here -ℤ pos (there + 10 * m)) ≤ unsigned_abs left + jump ppm l }
+    ensures left { (ppm l n g : ℕ) (received left : ℤ) → 0 < g → least_ticks ppm l ≤ n
+        → unsigned_abs left + min (unsigned_abs received) (n / g) ≡ unsigned_abs received
+        → unsigned_abs left + min (unsigned_abs received) (least_ticks ppm l / g) ≤ unsigned_abs received }
 {}
 
 /// X, of numbers alone: two copies that were `received` when the last frame came are near each other after
@@ -180,7 +216,8 @@ pub fn start_lies_ahead()
 /// of every signal (`edges`).
 pub fn run_is_long_enough()
     ensures frames { (clocks loss_run frame_ns cycle_ns cycles : ℕ) → 1 ≤ frame_ns
-        → run_time_ns clocks loss_run frame_ns cycle_ns cycles + run_time_ns clocks loss_run frame_ns cycle_ns cycles / 1000 + 1 + 2 * frame_ns
+        → run_time_ns clocks loss_run frame_ns cycle_ns cycles + run_time_ns clocks loss_run frame_ns cycle_ns cycles / 1000 + 1
+        + 2 * frame_ns
         ≤ run_frames clocks loss_run frame_ns cycle_ns cycles * frame_ns }
     ensures ticks { (ppm clocks loss_run frame_ns cycle_ns cycles k x : ℕ) → ppm ≤ 100 → 50000 ≤ frame_ns
         → AreTicksOf ppm ((run_frames clocks loss_run frame_ns cycle_ns cycles + 1) * period_fs frame_ns) k

@@ -1,5 +1,5 @@
 -- From what a shape tells by positions to the rows of its tree.
-use Rattle.std.specs.Prelude.{◌≡◌, ℕ, ◌-◌, ◌*◌, ◌<◌, ◌≤◌, ◌^◌, Bool, true, Some, None, List, length, slice_index, slice_index_or}
+use Rattle.std.specs.Prelude.{◌≡◌, ℕ, ◌+◌, ◌-◌, ◌*◌, ◌/◌, ◌<◌, ◌≤◌, ◌^◌, Bool, true, Some, None, List, length, slice_index, slice_index_or}
 use Rattle.std.specs.List.{All, find}
 use Rattle.std.specs.Option.{option_map}
 use Rattle.std.proofs.Common.{arith, sym, ap, ◌∙◌, subst}
@@ -27,7 +27,7 @@ use Rattle.dc_delay.specs.Refusals.{IsRefused, first_timed, first_unmeasurable}
 use Rattle.dc_delay.specs.ShapeRows.{hanging, kinds_of, positions, rows_of}
 use Rattle.dc_delay.proofs.Alike.{shape_delay, shape_unmeasurable}
 use Rattle.dc_delay.proofs.Listing.{timed_entry}
-use Rattle.dc_delay.proofs.NearDelays.{bounded}
+use Rattle.dc_delay.proofs.NearDelays.{bounded, near}
 use Rattle.dc_delay.proofs.Readings.{readings_are_latched}
 
 -- near the same numbers, told otherwise
@@ -68,8 +68,7 @@ module _ (rows : List Row) (tree : IsTree rows) (slaves : All IsRow rows) where
 
   module _ (measures m : ℕ → Bool) (alike : IsByPosition rows measures m) (timed t : ℕ → Bool) (clocks : IsByPosition rows timed t)
       (none : unmeasurable rows measures (order rows) ≡ None) (measured : (r : ℕ) → r < length rows → timed r ≡ true → measures r ≡ true)
-      (first : ℕ) (is_first : reference rows timed ≡ Some first) (laps : ℕ → Port → ℕ) (ppm : ℕ) (small : ppm ≤ 100) (short : round_trip rows < 10 ^ 13)
-      (readings : (r : ℕ) → r < length rows → measures r ≡ true → AreOfClock there ppm (pos r) laps) where
+      (first : ℕ) (is_first : reference rows timed ≡ Some first) (laps : ℕ → Port → ℕ) where
     whole : length there ≡ length rows
     whole = same_whole rows tree slaves
 
@@ -94,14 +93,12 @@ module _ (rows : List Row) (tree : IsTree rows) (slaves : All IsRow rows) where
         ap m (sym (back p low)) ∙ alike (row p) (row_low p low)
         ∙ measured (row p) (row_low p low) (sym (clocks (row p) (row_low p low)) ∙ ap t (back p low) ∙ timed_there)
 
-    latched : AreAllLatched there m (tick_gap ppm (round_trip there)) laps
-    latched p low measures_there =
+    -- what is latched at each row is so at each position
+    latched : (g : ℕ) → ((r : ℕ) → r < length rows → measures r ≡ true → AreLatched there g (pos r) laps) → AreAllLatched there m g laps
+    latched g each p low measures_there =
         let q = row p in
-        let h = readings q (row_low p low) (sym (alike q (row_low p low)) ∙ ap m (back p low) ∙ measures_there) in
-        let trip = round_trip_here rows tree slaves in
-        let near = readings_are_latched there h.osc ppm h.stood h.time (pos q) laps (is_tree rows tree slaves) (are_slaves rows tree slaves)
-        (there_low q (row_low p low)) h.runs small h.steady (omega (arith, short, trip)) h.readings in
-        subst (λ x. AreLatched there (tick_gap ppm (round_trip there)) x laps) (back p low) near
+        let near = each q (row_low p low) (sym (alike q (row_low p low)) ∙ ap m (back p low) ∙ measures_there) in
+        subst (λ x. AreLatched there g x laps) (back p low) near
 
     abbrev shape : List Row
     shape = rows_of (places rows) (kinds_of there)
@@ -115,24 +112,54 @@ module _ (rows : List Row) (tree : IsTree rows) (slaves : All IsRow rows) where
         ∙ shape_delay there m t laps (positions (length (places rows))) (pos r)
         ∙ ap (λ o. delay there m t laps o (pos r)) in_order
 
-    pub near_at : (r : ℕ) → r < length rows → timed r ≡ true
-        → (d : ℕ) × (slice_index_or (delay_list shape m t laps (positions (length (places rows)))) (pos r) None ≡ Some d)
-        × IsNear (1000000 * d) (arrive rows r - arrive rows first) (delay_bound ppm (weight rows measures timed r) (round_trip rows))
-    near_at r within is =
-        let trip = round_trip_here rows tree slaves in
-        let none' : unmeasurable there m (order there) ≡ None = unmeasurable_here rows tree slaves measures m alike ∙ ap (option_map pos) none in
-        let first' : reference there t ≡ Some (pos first) = reference_here rows tree slaves timed t clocks ∙ ap (option_map pos) is_first in
-        let n = bounded there (is_tree rows tree slaves) (are_slaves rows tree slaves) m none' t clock_measures (pos first) first' laps ppm latched (pos r)
-        (there_low r within) (clocks r within ∙ is) in
+    -- a delay that is near by the rows in frame order is near by the rows of the tree
+    entered : (r v v' : ℕ) → r < length rows → timed r ≡ true → v' ≡ v
+        → IsNear (1000000 * delay there m t laps (order there) (pos r)) (arrive there (pos r) - arrive there (pos first)) v
+        → (d : ℕ) × (slice_index_or (delay_list shape m t laps (positions (length (places rows)))) (pos r) None ≡ Some d) × IsNear (1000000 * d) (arrive rows r - arrive rows first) v'
+    entered r v v' within is same n =
         let first_low : first < length rows = find_low rows tree slaves timed (order rows) (order_within rows tree slaves) first is_first in
         let low : pos r < length (places rows) = (let k = count in let l = row_within rows tree slaves r within in omega (arith, k, l)) in (
           told r,
           timed_entry shape m t laps (length (places rows)) (pos r) low (clocks r within ∙ is),
           moved (delay there m t laps (order there) (pos r)) (told r)
-              (arrive there (pos r)) (arrive rows r) (arrive there (pos first)) (arrive rows first)
-              (delay_bound ppm (weight there m t (pos r)) (round_trip there)) (delay_bound ppm (weight rows measures timed r) (round_trip rows))
-              (told_is r) (sym (arrive_here rows tree slaves r within)) (sym (arrive_here rows tree slaves first first_low))
-              (ap (λ w. delay_bound ppm w (round_trip rows)) (sym (weight_here rows tree slaves measures m timed t alike clocks r within))
-              ∙ ap (delay_bound ppm (weight there m t (pos r))) (sym trip))
-              n,
+              (arrive there (pos r)) (arrive rows r) (arrive there (pos first)) (arrive rows first) v v'
+              (told_is r) (sym (arrive_here rows tree slaves r within)) (sym (arrive_here rows tree slaves first first_low)) same n,
         )
+
+    none_there : unmeasurable there m (order there) ≡ None
+    none_there = unmeasurable_here rows tree slaves measures m alike ∙ ap (option_map pos) none
+
+    first_there : reference there t ≡ Some (pos first)
+    first_there = reference_here rows tree slaves timed t clocks ∙ ap (option_map pos) is_first
+
+    weight_same : (r : ℕ) → r < length rows → weight there m t (pos r) ≡ weight rows measures timed r
+    weight_same r within = weight_here rows tree slaves measures m timed t alike clocks r within
+
+    pub near_by_latches : (g : ℕ) → ((r : ℕ) → r < length rows → measures r ≡ true → AreLatched there g (pos r) laps)
+        → (r : ℕ) → r < length rows → timed r ≡ true
+        → (d : ℕ) × (slice_index_or (delay_list shape m t laps (positions (length (places rows)))) (pos r) None ≡ Some d)
+        × IsNear (1000000 * d) (arrive rows r - arrive rows first) ((weight rows measures timed r * g + 1000000) / 2)
+    near_by_latches g each r within is =
+        entered r ((weight there m t (pos r) * g + 1000000) / 2) ((weight rows measures timed r * g + 1000000) / 2) within is
+        (ap (λ w. (w * g + 1000000) / 2) (sym (weight_same r within)))
+        (near there (is_tree rows tree slaves) (are_slaves rows tree slaves) m none_there t clock_measures (pos first) first_there laps g (latched g each) (pos r)
+        (there_low r within) (clocks r within ∙ is))
+
+    module _ (ppm : ℕ) (small : ppm ≤ 100) (short : round_trip rows < 10 ^ 13)
+        (readings : (r : ℕ) → r < length rows → measures r ≡ true → AreOfClock there ppm (pos r) laps) where
+      -- readings of clocks are latched within the gap of their ticks
+      of_clocks : (r : ℕ) → r < length rows → measures r ≡ true → AreLatched there (tick_gap ppm (round_trip there)) (pos r) laps
+      of_clocks r within measuring =
+          let h = readings r within measuring in
+          let trip = round_trip_here rows tree slaves in
+          readings_are_latched there h.osc ppm h.stood h.time (pos r) laps (is_tree rows tree slaves) (are_slaves rows tree slaves)
+          (there_low r within) h.runs small h.steady (omega (arith, short, trip)) h.readings
+
+      pub near_at : (r : ℕ) → r < length rows → timed r ≡ true
+          → (d : ℕ) × (slice_index_or (delay_list shape m t laps (positions (length (places rows)))) (pos r) None ≡ Some d)
+          × IsNear (1000000 * d) (arrive rows r - arrive rows first) (delay_bound ppm (weight rows measures timed r) (round_trip rows))
+      near_at r within is =
+          entered r (delay_bound ppm (weight there m t (pos r)) (round_trip there)) (delay_bound ppm (weight rows measures timed r) (round_trip rows)) within is
+          (ap (λ w. delay_bound ppm w (round_trip rows)) (sym (weight_same r within)) ∙ ap (delay_bound ppm (weight there m t (pos r))) (sym (round_trip_here rows tree slaves)))
+          (bounded there (is_tree rows tree slaves) (are_slaves rows tree slaves) m none_there t clock_measures (pos first) first_there laps ppm
+          (latched (tick_gap ppm (round_trip there)) of_clocks) (pos r) (there_low r within) (clocks r within ∙ is))

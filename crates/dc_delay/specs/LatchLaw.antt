@@ -37,4 +37,6 @@ pub record AreOfClock (rows : List Row) (ppm r : ℕ) (laps : ℕ → Port → �
 
 -- each measuring slave that has a measuring parent can be measured from it
 abbrev pub AreMeasurable : List Row → (ℕ → Bool) → Type 0
-AreMeasurable rows measures = (r : ℕ) (a : Above) → r < length rows → measures r ≡ true → measuring_parent rows measures r ≡ Some a → is_measurable rows measures r ≡ true
+AreMeasurable rows measures =
+    (r : ℕ) (a : Above) → r < length rows → measures r ≡ true → measuring_parent rows measures r ≡ Some a
+    → is_measurable rows measures r ≡ true

@@ -82,7 +82,8 @@ delay rows measures timed laps order r = delay_from rows measures laps (find tim
 
 -- the delays of the timed slaves, in this order
 abbrev pub delays_from : List Row → (ℕ → Bool) → (ℕ → Bool) → (ℕ → Port → ℕ) → Option ℕ → List ℕ → List (Option ℕ)
-delays_from rows measures timed laps reference order = map (λ r. if timed r then Some (delay_from rows measures laps reference r) else None) order
+delays_from rows measures timed laps reference order =
+    map (λ r. if timed r then Some (delay_from rows measures laps reference r) else None) order
 
 abbrev pub delay_list : List Row → (ℕ → Bool) → (ℕ → Bool) → (ℕ → Port → ℕ) → List ℕ → List (Option ℕ)
 delay_list rows measures timed laps order = delays_from rows measures timed laps (find timed order) order

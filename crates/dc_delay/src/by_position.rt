@@ -1,6 +1,6 @@
 //! Laws that join the delays of a shape, which a master computes by positions, to the rows of the true tree.
 
-ghost use Rattle.std.specs.Prelude.{◌≡◌, ℕ, ◌-◌, ◌*◌, ◌<◌, ◌≤◌, ◌^◌, Bool, true, Some, None, List, length, slice_index_or};
+ghost use Rattle.std.specs.Prelude.{◌≡◌, ℕ, ◌+◌, ◌-◌, ◌*◌, ◌/◌, ◌<◌, ◌≤◌, ◌^◌, Bool, true, Some, None, List, length, slice_index_or};
 ghost use Rattle.std.specs.List.{All};
 ghost use Rattle.std.specs.Option.{option_map};
 ghost use Rattle.cable_tree.specs.FrameOrder.{order};
@@ -13,7 +13,7 @@ ghost use Rattle.dc_bounds.specs.DelayBound.{delay_bound};
 ghost use Rattle.dc_bounds.specs.Measurable.{unmeasurable};
 ghost use Rattle.dc_bounds.specs.TickFacts.{IsNear};
 ghost use Rattle.dc_bounds.specs.Weight.{reference, weight};
-ghost use Rattle.dc_delay.specs.LatchLaw.{AreOfClock};
+ghost use Rattle.dc_delay.specs.LatchLaw.{AreLatched, AreOfClock};
 ghost use Rattle.dc_delay.specs.MeasuredDelay.{delay_list};
 ghost use Rattle.dc_delay.specs.Refusals.{IsRefused, first_timed, first_unmeasurable};
 ghost use Rattle.dc_delay.specs.ShapeRows.{kinds_of, positions, rows_of};
@@ -32,6 +32,22 @@ pub fn judged_by_position()
         → (e : DelayError) → ¬ IsRefused (places rows) there clocks e }
 {}
 
+/// The list that [`delays`](crate::delays) answers over the shape of a tree, where the latched times of each measuring
+/// slave are within `g` fs of its laps, by whatever clocks: at the position of each clock stands a delay, and it is within
+/// half of its row's weight times `g`, and half a nanosecond, of the true one.
+pub fn delays_by_latches_are_near()
+    ensures { (rows : List Row) → IsTree rows → All IsRow rows
+        → (measures there : ℕ → Bool) → IsByPosition rows measures there → (timed clocks : ℕ → Bool) → IsByPosition rows timed clocks
+        → unmeasurable rows measures (order rows) ≡ None → ((r : ℕ) → r < length rows → timed r ≡ true → measures r ≡ true)
+        → (first : ℕ) → reference rows timed ≡ Some first
+        → (laps : ℕ → Port → ℕ) (g : ℕ)
+        → ((r : ℕ) → r < length rows → measures r ≡ true → AreLatched (renumbered rows) g (position_of rows r) laps)
+        → (r : ℕ) → r < length rows → timed r ≡ true
+        → (d : ℕ) × (slice_index_or (delay_list (rows_of (places rows) (kinds_of (renumbered rows))) there clocks laps
+        (positions (length (places rows)))) (position_of rows r) None ≡ Some d)
+        × IsNear (1000000 * d) (arrive rows r - arrive rows first) ((weight rows measures timed r * g + 1000000) / 2) }
+{}
+
 /// The list that [`delays`](crate::delays) answers over the shape of a tree, where the latched times are those of
 /// clocks that do not correct: at the position of each clock stands a delay, and it is within the delay bound of
 /// the clock's row of the true one.
@@ -43,6 +59,7 @@ pub fn delays_of_a_tree_are_near()
         → (laps : ℕ → Port → ℕ) (ppm : ℕ) → ppm ≤ 100 → round_trip rows < 10 ^ 13
         → ((r : ℕ) → r < length rows → measures r ≡ true → AreOfClock (renumbered rows) ppm (position_of rows r) laps)
         → (r : ℕ) → r < length rows → timed r ≡ true
-        → (d : ℕ) × (slice_index_or (delay_list (rows_of (places rows) (kinds_of (renumbered rows))) there clocks laps (positions (length (places rows)))) (position_of rows r) None ≡ Some d)
+        → (d : ℕ) × (slice_index_or (delay_list (rows_of (places rows) (kinds_of (renumbered rows))) there clocks laps
+        (positions (length (places rows)))) (position_of rows r) None ≡ Some d)
         × IsNear (1000000 * d) (arrive rows r - arrive rows first) (delay_bound ppm (weight rows measures timed r) (round_trip rows)) }
 {}

@@ -67,7 +67,8 @@ pub fn measured_delays_are_near()
         → (r : ℕ) → r < length rows → timed r ≡ true
         → IsNear (1000000 * delay rows measures timed laps (order rows) r) (arrive rows r - arrive rows first)
         ((weight rows measures timed r * g + 1000000) / 2) }
-    ensures bound { (rows : List Row) → IsTree rows → All IsRow rows → (measures : ℕ → Bool) → unmeasurable rows measures (order rows) ≡ None
+    ensures bound { (rows : List Row) → IsTree rows → All IsRow rows → (measures : ℕ → Bool)
+        → unmeasurable rows measures (order rows) ≡ None
         → (timed : ℕ → Bool) → ((r : ℕ) → r < length rows → timed r ≡ true → measures r ≡ true)
         → (first : ℕ) → reference rows timed ≡ Some first
         → (laps : ℕ → Port → ℕ) (ppm : ℕ) → AreAllLatched rows measures (tick_gap ppm (round_trip rows)) laps
@@ -94,7 +95,8 @@ pub fn entries_of_the_list()
     ensures whole { (rows : List Row) (measures timed : ℕ → Bool) (laps : ℕ → Port → ℕ) (n : ℕ)
         → length (delay_list rows measures timed laps (positions n)) ≡ n }
     ensures timed { (rows : List Row) (measures timed : ℕ → Bool) (laps : ℕ → Port → ℕ) (n i : ℕ) → i < n → timed i ≡ true
-        → slice_index_or (delay_list rows measures timed laps (positions n)) i None ≡ Some (delay rows measures timed laps (positions n) i) }
+        → slice_index_or (delay_list rows measures timed laps (positions n)) i None
+        ≡ Some (delay rows measures timed laps (positions n) i) }
     ensures other { (rows : List Row) (measures timed : ℕ → Bool) (laps : ℕ → Port → ℕ) (n i : ℕ) → i < n → timed i ≡ false
         → slice_index_or (delay_list rows measures timed laps (positions n)) i None ≡ None }
 {}

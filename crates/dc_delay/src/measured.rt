@@ -34,7 +34,8 @@ pub fn delays(
     requires latches { length latches.now ≡ length shape.now }
     requires timed { length timed.now ≡ length shape.now }
     ensures ok { OnOk result (out.new.items
-        ≡ delay_list (rows_of shape.now kinds.now) (measures latches.now) (flag timed.now) (laps latches.now) (positions (length shape.now))) }
+        ≡ delay_list (rows_of shape.now kinds.now) (measures latches.now) (flag timed.now) (laps latches.now)
+        (positions (length shape.now))) }
     ensures refused { IfErr result (IsRefused shape.now (measures latches.now) (flag timed.now)) }
     ensures exactly { (e : Error) → IsRefused shape.now (measures latches.now) (flag timed.now) e → result ≡ Err e }
     ensures empty { OnErr result (out.new.items ≡ []) }
@@ -53,7 +54,8 @@ fn put_delays(slaves: &Table, timed: &[bool], reference: u16, out: &mut DelayLis
     requires reference { reference < length slaves.now }
     requires empty { out.old.items ≡ [] }
     ensures { out.new.items
-        ≡ delays_from (table_rows slaves.now) (table_measures slaves.now) (flag timed.now) (table_laps slaves.now) (Some reference) (positions (length timed.now)) }
+        ≡ delays_from (table_rows slaves.now) (table_measures slaves.now) (flag timed.now) (table_laps slaves.now) (Some reference)
+        (positions (length timed.now)) }
 {
     let to_reference = way(slaves, reference);
     for (position, is_timed) in timed.iter().enumerate() {

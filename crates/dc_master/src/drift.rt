@@ -18,9 +18,9 @@ ghost use Rattle.master_script.specs.declared.step.Refusal.TheVariants.{Lost};
 
 use ecat_frame::Frame;
 use ecat_link::Link;
-use master_frames::drift_frame;
+use master_frames::{drift_frame, low_in};
 use master_script::{Refusal, Step};
-use master_steps::{Config, Notes, judge_drift, low_in, send};
+use master_steps::{Config, Notes, judge_drift, send};
 use wrap_time::extend;
 
 /// How many drift frames settling sends.

@@ -14,8 +14,9 @@ ghost use Rattle.master_script.specs.Words.{delays_of};
 use arrayvec::ArrayVec;
 use dc_delay::{DelayError, DelayList, delays, judge};
 use dc_topology::{Shape, TopologyError, topology};
+use master_frames::SlaveWords;
 use master_script::Refusal;
-use master_steps::{Config, Learned, SlaveWords};
+use master_steps::{Config, Learned};
 
 /// The position of the reference, which is the first clock. `shape` becomes the tree of the slaves.
 #[tactic(auto, unfolding(master_script::specs::Slaves::judgement))]

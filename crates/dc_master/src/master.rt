@@ -2,6 +2,7 @@ ghost use Rattle.std.specs.Prelude.{◌≡◌, ◌↔◌, ◌-◌, ◌≤◌, �
 ghost use Rattle.ecat_link.specs.RoseBy.{RoseBy};
 ghost use Rattle.ecat_link.specs.Serves.{Serves};
 ghost use Rattle.master_steps.specs.ConfigRange.{IsConfig, value_of};
+ghost use Rattle.dc_master.specs.Answered.{IsAnswered};
 ghost use Rattle.dc_master.specs.Made.{IsOfSlaves, IsSpent, Makes, Stands};
 ghost use Rattle.master_script.specs.Causes.{AreRefused, IsCause};
 ghost use Rattle.master_script.specs.Config.{settle_frames as settle_frames_of};
@@ -132,18 +133,12 @@ impl Master {
     /// `Unmeasurable` where the last slave told what it is and the slaves list no tree, have no clock, or cannot all be measured.
     pub fn commission<L: Link>(&mut self, link: &mut L) -> Result<(), MasterError>
         requires { (self.old.stage ≡ stage.Fresh) ⊎ (self.old.stage ≡ stage.Spent) }
-        ensures config { self.new.config ≡ self.old.config }
+        ensures answered { IsAnswered stage.Commissioned self.old self.new result }
         ensures spent { (r : _) → self.old.refusal ≡ Some r → (self.new ≡ self.old) × (link.new ≡ link.old) × (result ≡ Err (Spent r)) }
-        ensures spent_before { (r : _) → result ≡ Err (Spent r) → self.old.refusal ≡ Some r }
         ensures spent_exactly { (self.old.stage ≡ stage.Spent) ↔ IsSpent result }
         ensures serves { self.old.refusal ≡ None → Serves L.step (script self.old.config Commission)
             (StandsFor None self.old) (L.state link.old) (L.state link.new) (Ends self.old.config Commission self.new result) }
         ensures made { self.old.refusal ≡ None → Makes L.step Commission self.old self.new (L.state link.old) (L.state link.new) result }
-        ensures stage { OnOk result (self.new.stage ≡ stage.Commissioned) }
-        ensures refusal { OnOk result (self.new.refusal ≡ None) }
-        ensures ended { OnErr result (self.new.stage ≡ stage.Spent) }
-        ensures refused { (r : _) → result ≡ Err (Refused r) → self.new.refusal ≡ Some r }
-        ensures few { self.new.sent ≤ 203097 }
         ensures later { L.lost link.old ≤ L.lost link.new }
         ensures counted { RoseBy (self.new.lost - self.old.lost) (L.lost link.old) (L.lost link.new) }
         ensures lost { (step : _) → result ≡ Err (Refused (Lost step)) → RoseBy 3 (L.lost link.old) (L.lost link.new) }
@@ -173,18 +168,12 @@ impl Master {
     /// than the number of clocks.
     pub fn settle<L: Link>(&mut self, link: &mut L) -> Result<(), MasterError>
         requires { (self.old.stage ≡ stage.Commissioned) ⊎ (self.old.stage ≡ stage.Spent) }
-        ensures config { self.new.config ≡ self.old.config }
+        ensures answered { IsAnswered stage.Settled self.old self.new result }
         ensures spent { (r : _) → self.old.refusal ≡ Some r → (self.new ≡ self.old) × (link.new ≡ link.old) × (result ≡ Err (Spent r)) }
-        ensures spent_before { (r : _) → result ≡ Err (Spent r) → self.old.refusal ≡ Some r }
         ensures spent_exactly { (self.old.stage ≡ stage.Spent) ↔ IsSpent result }
         ensures serves { self.old.refusal ≡ None → Serves L.step (script self.old.config Settle)
             (StandsFor None self.old) (L.state link.old) (L.state link.new) (Ends self.old.config Settle self.new result) }
         ensures made { self.old.refusal ≡ None → Makes L.step Settle self.old self.new (L.state link.old) (L.state link.new) result }
-        ensures stage { OnOk result (self.new.stage ≡ stage.Settled) }
-        ensures refusal { OnOk result (self.new.refusal ≡ None) }
-        ensures ended { OnErr result (self.new.stage ≡ stage.Spent) }
-        ensures refused { (r : _) → result ≡ Err (Refused r) → self.new.refusal ≡ Some r }
-        ensures few { self.new.sent ≤ 203097 }
         ensures later { L.lost link.old ≤ L.lost link.new }
         ensures counted { RoseBy (self.new.lost - self.old.lost) (L.lost link.old) (L.lost link.new) }
         ensures lost { (step : _) → result ≡ Err (Refused (Lost step)) → RoseBy (settle_frames_of self.old.config) (L.lost link.old) (L.lost link.new) }
@@ -211,18 +200,12 @@ impl Master {
     /// expected.
     pub fn arm<L: Link>(&mut self, link: &mut L) -> Result<(), MasterError>
         requires { (self.old.stage ≡ stage.Settled) ⊎ (self.old.stage ≡ stage.Spent) }
-        ensures config { self.new.config ≡ self.old.config }
+        ensures answered { IsAnswered stage.Armed self.old self.new result }
         ensures spent { (r : _) → self.old.refusal ≡ Some r → (self.new ≡ self.old) × (link.new ≡ link.old) × (result ≡ Err (Spent r)) }
-        ensures spent_before { (r : _) → result ≡ Err (Spent r) → self.old.refusal ≡ Some r }
         ensures spent_exactly { (self.old.stage ≡ stage.Spent) ↔ IsSpent result }
         ensures serves { self.old.refusal ≡ None → Serves L.step (script self.old.config Arm)
             (StandsFor None self.old) (L.state link.old) (L.state link.new) (Ends self.old.config Arm self.new result) }
         ensures made { self.old.refusal ≡ None → Makes L.step Arm self.old self.new (L.state link.old) (L.state link.new) result }
-        ensures stage { OnOk result (self.new.stage ≡ stage.Armed) }
-        ensures refusal { OnOk result (self.new.refusal ≡ None) }
-        ensures ended { OnErr result (self.new.stage ≡ stage.Spent) }
-        ensures refused { (r : _) → result ≡ Err (Refused r) → self.new.refusal ≡ Some r }
-        ensures few { self.new.sent ≤ 203097 }
         ensures later { L.lost link.old ≤ L.lost link.new }
         ensures counted { RoseBy (self.new.lost - self.old.lost) (L.lost link.old) (L.lost link.new) }
         ensures lost { (step : _) → result ≡ Err (Refused (Lost step)) → RoseBy 3 (L.lost link.old) (L.lost link.new) }
@@ -250,18 +233,12 @@ impl Master {
     pub fn run<L: Link>(&mut self, link: &mut L, frames: u32) -> Result<(), MasterError>
         requires stage { (self.old.stage ≡ stage.Armed) ⊎ (self.old.stage ≡ stage.Spent) }
         requires few { frames ≤ 100000 }
-        ensures config { self.new.config ≡ self.old.config }
+        ensures answered { IsAnswered stage.Ended self.old self.new result }
         ensures spent { (r : _) → self.old.refusal ≡ Some r → (self.new ≡ self.old) × (link.new ≡ link.old) × (result ≡ Err (Spent r)) }
-        ensures spent_before { (r : _) → result ≡ Err (Spent r) → self.old.refusal ≡ Some r }
         ensures spent_exactly { (self.old.stage ≡ stage.Spent) ↔ IsSpent result }
         ensures serves { self.old.refusal ≡ None → Serves L.step (script self.old.config (Run frames))
             (StandsFor None self.old) (L.state link.old) (L.state link.new) (Ends self.old.config (Run frames) self.new result) }
         ensures made { self.old.refusal ≡ None → Makes L.step (Run frames) self.old self.new (L.state link.old) (L.state link.new) result }
-        ensures stage { OnOk result (self.new.stage ≡ stage.Ended) }
-        ensures refusal { OnOk result (self.new.refusal ≡ None) }
-        ensures ended { OnErr result (self.new.stage ≡ stage.Spent) }
-        ensures refused { (r : _) → result ≡ Err (Refused r) → self.new.refusal ≡ Some r }
-        ensures few { self.new.sent ≤ 203097 }
         ensures later { L.lost link.old ≤ L.lost link.new }
         ensures counted { RoseBy (self.new.lost - self.old.lost) (L.lost link.old) (L.lost link.new) }
         ensures lost { (step : _) → result ≡ Err (Refused (Lost step)) → ⊥ }

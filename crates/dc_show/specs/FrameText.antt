@@ -57,7 +57,8 @@ datagram_text d = head_text d ++ body_text d
 -- the line of a frame, with the number of its line in the input
 unfoldable pub frame_line : ℕ → FrameValue → List ℕ
 frame_line line f =
-    codes "frame " ++ field (decimal line) ++ codes "bytes " ++ field (decimal (length (spelling f))) ++ codes "datagrams " ++ decimal (length f.datagrams) ++ 10 ∷ []
+    codes "frame " ++ field (decimal line) ++ codes "bytes " ++ field (decimal (length (spelling f))) ++ codes "datagrams "
+    ++ decimal (length f.datagrams) ++ 10 ∷ []
 
 -- and those of its datagrams
 unfoldable pub frame_text : ℕ → FrameValue → List ℕ

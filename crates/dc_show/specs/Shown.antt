@@ -65,14 +65,18 @@ pub record IsFirstLine (bytes line rest : List ℕ) : Type 0 where
 -- its lines, which are counted from the given number on.
 pub data Shows : ℕ → List ℕ → List ℕ → Type 0 where
   ends : (number : ℕ) (line text : List ℕ) → IsOneLine line → ShowsLine number line text → Shows number line text
-  goes_on : (number : ℕ) (bytes line rest text behind : List ℕ) → IsFirstLine bytes line rest → ShowsLine number (without_return line) text → Shows (number + 1) rest behind
+  goes_on : (number : ℕ) (bytes line rest text behind : List ℕ) → IsFirstLine bytes line rest → ShowsLine number (without_return line) text
+      → Shows (number + 1) rest behind
       → Shows number bytes (text ++ behind)
 
 -- the first line that is refused, and why
 pub data Refuses : ℕ → List ℕ → ℕ → FrameFault → Type 0 where
-  at_the_end : (number : ℕ) (line : List ℕ) (fault : FrameFault) → IsOneLine line → RefusesLine line fault → Refuses number line number fault
-  here : (number : ℕ) (bytes line rest : List ℕ) (fault : FrameFault) → IsFirstLine bytes line rest → RefusesLine (without_return line) fault → Refuses number bytes number fault
-  later : (number : ℕ) (bytes line rest text : List ℕ) (n : ℕ) (fault : FrameFault) → IsFirstLine bytes line rest → ShowsLine number (without_return line) text → Refuses (number + 1) rest n fault
+  at_the_end : (number : ℕ) (line : List ℕ) (fault : FrameFault) → IsOneLine line → RefusesLine line fault
+      → Refuses number line number fault
+  here : (number : ℕ) (bytes line rest : List ℕ) (fault : FrameFault) → IsFirstLine bytes line rest
+      → RefusesLine (without_return line) fault → Refuses number bytes number fault
+  later : (number : ℕ) (bytes line rest text : List ℕ) (n : ℕ) (fault : FrameFault) → IsFirstLine bytes line rest
+      → ShowsLine number (without_return line) text → Refuses (number + 1) rest n fault
       → Refuses number bytes n fault
 
 -- what an error says of a line with this number; want of memory says nothing

@@ -19,7 +19,8 @@ pub fn show(alloc: Global, bytes: &[u8]) -> Result<Vec<u8>, ShowError>
     requires { length bytes.now ≤ 16777216 }
     ensures shown { IfOk result (λ text. Shows 1 bytes.now text.items) }
     ensures refused { IfErr result (IsShowError bytes.now) }
-    ensures exactly { (line : ℕ) (fault : Fault) → Refuses 1 bytes.now line fault → (result ≡ Err (BadFrame line fault)) ⊎ (result ≡ Err NoMemory) }
+    ensures exactly { (line : ℕ) (fault : Fault) → Refuses 1 bytes.now line fault
+        → (result ≡ Err (BadFrame line fault)) ⊎ (result ≡ Err NoMemory) }
     ensures only { (text : List ℕ) → Shows 1 bytes.now text → IfErr result (λ e. e ≡ NoMemory) }
 {
     let mut text = Vec::new(alloc);

@@ -10,7 +10,7 @@ use Rattle.segment_file.specs.Told.{IsSegmentText}
 use Rattle.segment_file.specs.declared.seg_error.SegError.TheVariants as error
 use Rattle.segment_file.proofs.Exported.{legal_unrefused}
 use Rattle.dc_top.specs.Answers.{RefusesFile}
-use Rattle.dc_top.specs.Runs.{HasMade, IsLostBy, IsReportOf, text_of}
+use Rattle.dc_top.specs.Runs.{HasMade, IsLostBy, IsReportOf, text_of_report}
 use Rattle.dc_top.specs.SegFaults.{error_of}
 use Rattle.dc_top.specs.declared.outcome.Outcome.{Outcome}
 use Rattle.dc_top.specs.declared.outcome.Outcome.TheVariants.{BadText, BadSegment, NoMemory}
@@ -43,7 +43,7 @@ only_memory bytes s is NoMemory h = refl
 only_memory bytes s is o h = absurd h
 
 -- what is written of its run
-pub reported : (r : Report) (s : SegmentValue) (b : BenchState) → IsLegal s → HasMade r s b (Ok tt) → IsReportOf r s (text_of r s b) b
+pub reported : (r : Report) (s : SegmentValue) (b : BenchState) → IsLegal s → HasMade r s b (Ok tt) → IsReportOf r s (text_of_report r s b) b
 reported r s b legal run = record {
   run = run;
   losses = none_lost r s b legal run;

@@ -103,14 +103,17 @@ Unread TooLong left = HasMore left input_limit
 Unread o left = ⊥
 
 -- the answers to a command with an input, which is read to its end, or could not be
-abbrev pub AnsweredOver : Command → Outcome → Option (List ℕ) → Option (List ℕ) → Option (List ℕ) → Option (List ℕ) → Option BenchState → Type 0
+abbrev pub AnsweredOver : Command → Outcome → Option (List ℕ) → Option (List ℕ) → Option (List ℕ) → Option (List ℕ) → Option BenchState
+    → Type 0
 AnsweredOver command ReadFault left left' taken taken' bench = Keeps taken taken' × (bench ≡ None)
 AnsweredOver command NoMemory left left' taken taken' bench = Keeps taken taken'
 AnsweredOver command TooLong left left' taken taken' bench = HasMore left input_limit × Keeps taken taken' × (bench ≡ None)
-AnsweredOver command o left left' taken taken' bench = (bytes : List ℕ) × (IsInput left left' bytes × ServedBy command bytes o taken taken' bench)
+AnsweredOver command o left left' taken taken' bench =
+    (bytes : List ℕ) × (IsInput left left' bytes × ServedBy command bytes o taken taken' bench)
 
 -- the answers to a command without an input, of which nothing is read
-abbrev pub AnsweredAlone : Command → Outcome → Option (List ℕ) → Option (List ℕ) → Option (List ℕ) → Option (List ℕ) → Option BenchState → Type 0
+abbrev pub AnsweredAlone : Command → Outcome → Option (List ℕ) → Option (List ℕ) → Option (List ℕ) → Option (List ℕ) → Option BenchState
+    → Type 0
 AnsweredAlone command o left left' taken taken' bench = Keeps left left' × ServedBy command [] o taken taken' bench
 
 -- what a command does with the input
@@ -122,12 +125,14 @@ reading Show = WholeInput
 reading Migrate = WholeInput
 reading command = NoInput
 
-abbrev pub AnsweredIn : InputUse → Command → Outcome → Option (List ℕ) → Option (List ℕ) → Option (List ℕ) → Option (List ℕ) → Option BenchState → Type 0
+abbrev pub AnsweredIn : InputUse → Command → Outcome → Option (List ℕ) → Option (List ℕ) → Option (List ℕ) → Option (List ℕ)
+    → Option BenchState → Type 0
 AnsweredIn WholeInput command o left left' taken taken' bench = AnsweredOver command o left left' taken taken' bench
 AnsweredIn NoInput command o left left' taken taken' bench = AnsweredAlone command o left left' taken taken' bench
 
 -- the answers to words: Usage to those that are no command, where nothing is read or written
-abbrev pub Answered : Option Command → Outcome → Option (List ℕ) → Option (List ℕ) → Option (List ℕ) → Option (List ℕ) → Option BenchState → Type 0
+abbrev pub Answered : Option Command → Outcome → Option (List ℕ) → Option (List ℕ) → Option (List ℕ) → Option (List ℕ) → Option BenchState
+    → Type 0
 Answered None o left left' taken taken' bench = ((o ≡ Usage) ⊎ (o ≡ NoMemory)) × Keeps left left' × Keeps taken taken' × (bench ≡ None)
 Answered (Some command) o left left' taken taken' bench = AnsweredIn (reading command) command o left left' taken taken' bench
 

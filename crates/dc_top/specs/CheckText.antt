@@ -5,8 +5,8 @@ use Rattle.segment_bounds.specs.Window.{window_of}
 use Rattle.segment_file.specs.Faults.{lock_in, step_of}
 use Rattle.segment_file.specs.Segment.{SegmentValue, clocks, counts_of}
 
--- how many slaves and clocks there are, after how many drift frames the clocks are together, by how many ns at least a difference falls from
--- one that arrives to the next, unless it falls to what comes up anew, and how far apart edges of two slaves can be (fs)
+-- how many slaves and clocks there are, after how many drift frames the clocks are together, by how many ns at least a difference
+-- falls from one that arrives to the next, unless it falls to what comes up again, and how far apart edges of two slaves can be (fs)
 unfoldable pub numbers_text : ℕ → ℕ → ℕ → ℤ → ℕ → List ℕ
 numbers_text slaves clocks lock_in mu window =
     codes "legal slaves " ++ (decimal slaves ++ (codes " clocks " ++ (decimal clocks ++ (codes " lock_in " ++ (decimal lock_in

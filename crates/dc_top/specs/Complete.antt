@@ -21,8 +21,8 @@ IsLegalFile bytes = (s : SegmentValue) × IsSegmentText bytes s
 abbrev pub RunsThrough : Report → List ℕ → Type 0
 RunsThrough report bytes = (s : SegmentValue) × (IsSegmentText bytes s × (lost_step_of s (goes_on report) ≡ None))
 
--- Nothing in the input stands against the command: of `show`, every line that is not empty is a frame. `gen` and `drill` have none, and other
--- commands are not built.
+-- Nothing in the input stands against the command: of `show`, every line that is not empty is a frame. `gen` and `drill` have none,
+-- and other commands are not built.
 abbrev pub IsGood : Command → List ℕ → Type 0
 IsGood (Run edges) bytes = RunsThrough (report.Run edges) bytes
 IsGood Delays bytes = RunsThrough report.Delays bytes

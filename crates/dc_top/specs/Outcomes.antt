@@ -19,15 +19,15 @@ status_of NoMemory = 9
 status_of TooLong = 10
 status_of NotYet = 11
 
-abbrev pub text_of : Outcome → List ℕ
-text_of Done = []
-text_of Usage = codes "dc: usage"
-text_of BadText = codes "dc: not JSON"
-text_of (BadSegment fault) = codes "dc: segment: " ++ segment_text fault
-text_of (BadFrame line fault) = codes "dc: frame: line " ++ decimal line ++ codes " " ++ fault_text fault
-text_of (Lost step) = codes "dc: lost " ++ step_text step
-text_of ReadFault = codes "dc: read fault"
-text_of WriteFault = codes "dc: write fault"
-text_of NoMemory = codes "dc: no memory"
-text_of TooLong = codes "dc: input too long"
-text_of NotYet = codes "dc: not yet"
+abbrev pub line_of_outcome : Outcome → List ℕ
+line_of_outcome Done = []
+line_of_outcome Usage = codes "dc: usage"
+line_of_outcome BadText = codes "dc: not JSON"
+line_of_outcome (BadSegment fault) = codes "dc: segment: " ++ segment_text fault
+line_of_outcome (BadFrame line fault) = codes "dc: frame: line " ++ decimal line ++ codes " " ++ fault_text fault
+line_of_outcome (Lost step) = codes "dc: lost " ++ step_text step
+line_of_outcome ReadFault = codes "dc: read fault"
+line_of_outcome WriteFault = codes "dc: write fault"
+line_of_outcome NoMemory = codes "dc: no memory"
+line_of_outcome TooLong = codes "dc: input too long"
+line_of_outcome NotYet = codes "dc: not yet"

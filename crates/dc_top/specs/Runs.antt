@@ -30,10 +30,10 @@ goes_on (Run edges) = true
 goes_on Drill = true
 
 -- what is written of it
-abbrev pub text_of : Report → SegmentValue → BenchState → List ℕ
-text_of Delays s b = table_text s b
-text_of (Run edges) s b = report_text s b edges
-text_of Drill s b = drill_text s b
+abbrev pub text_of_report : Report → SegmentValue → BenchState → List ℕ
+text_of_report Delays s b = table_text s b
+text_of_report (Run edges) s b = report_text s b edges
+text_of_report Drill s b = drill_text s b
 
 -- A bench has made the run of this segment, of which no step loses its three tries, and the text is what is written of it. Each clock has
 -- a delay, which lies within the delay bound of the true one; the frames that were sent are as many as the file tells, and few.
@@ -44,14 +44,14 @@ pub record IsReportOf (report : Report) (segment : SegmentValue) (text : List �
   pub near : AreNear segment bench.master.delays
   pub sends : Sends report segment bench
   pub few : bench.master.sent ≤ 100000
-  pub written : text ≡ text_of report segment bench
+  pub written : text ≡ text_of_report report segment bench
 
 abbrev pub IsReport : Report → SegmentValue → List ℕ → Option BenchState → Type 0
 IsReport report s text None = ⊥
 IsReport report s text (Some b) = IsReportOf report s text b
 
--- This is the first step of the run of this segment whose three tries are listed as lost, and the run ended there. The delays are near where
--- that is behind commissioning, and the frames that were sent are few.
+-- This is the first step of the run of this segment whose three tries are listed as lost, and the run ended there. The delays are
+-- near where that is after commissioning, and the frames that were sent are few.
 pub record IsLostBy (report : Report) (segment : SegmentValue) (step : Step) (bench : BenchState) : Type 0 where
   pub run : HasMade report segment bench (Err (Refused (Lost step)))
   pub losses : lost_step_of segment (goes_on report) ≡ Some step

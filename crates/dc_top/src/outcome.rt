@@ -62,9 +62,9 @@ impl Outcome {
 /// The line on standard error, without its line feed; empty where all went well.
 impl fmt::Display for Outcome {
     ghost use Rattle.std.specs.Prelude.{Some};
-    ghost use Rattle.dc_top.specs.Outcomes.{text_of};
+    ghost use Rattle.dc_top.specs.Outcomes.{line_of_outcome};
 
-    ghost output = { λ o. Some (text_of o) };
+    ghost output = { λ o. Some (line_of_outcome o) };
 
     fn fmt<W: fmt::Write>(&self, f: &mut fmt::Formatter<W>) -> fmt::Result {
         match self {

@@ -9,13 +9,13 @@ ghost use Rattle.segment_bench.specs.NewBench.{IsNew};
 ghost use Rattle.segment_draw.specs.Generated.{generated};
 ghost use Rattle.segment_file.specs.Legal.{IsLegal};
 ghost use Rattle.dc_top.specs.Answers.{OfFile, RefusesDriven, RefusesRun};
-ghost use Rattle.dc_top.specs.Runs.{HasMade, IsReport, text_of};
+ghost use Rattle.dc_top.specs.Runs.{HasMade, IsReport, text_of_report};
 ghost use Rattle.dc_top.specs.declared.outcome.Outcome.TheVariants as outcome;
 ghost use Rattle.dc_top.specs.declared.report.Report.TheVariants as report;
 
 use crate::Outcome;
 use crate::report::Report;
-use bench_report::{delay_table, drill_report, run_report};
+use bench_report::{delays_of_bench, drill_report, run_report};
 use dc_base::NoMemory;
 use dc_bench::Bench;
 use dc_master::{MasterError, Refusal, Step};
@@ -84,7 +84,7 @@ fn drive_bench(
     ensures refused { IfErr result (λ o. RefusesRun report segment.now o (Some bench.new)) }
 {
     match make_run(segment, report, bench) {
-        Ok(()) => Ok(text_of(alloc, segment, report, bench)?),
+        Ok(()) => Ok(report_text(alloc, segment, report, bench)?),
         Err(error) => Err(Outcome::Lost(step_of(error))),
     }
 }
@@ -103,7 +103,7 @@ fn make_run(segment: &Segment, report: Report, bench: &mut Bench) -> Result<(), 
 }
 
 // What is reported of a bench that has made its run.
-fn text_of(
+fn report_text(
     alloc: Global,
     segment: &Segment,
     report: Report,
@@ -111,10 +111,10 @@ fn text_of(
 ) -> Result<Vec<u8>, NoMemory>
     requires legal { IsLegal segment.now }
     requires made { HasMade report segment.now bench.now (Ok tt) }
-    ensures { IfOk result (λ text. text.items ≡ text_of report segment.now bench.now) }
+    ensures { IfOk result (λ text. text.items ≡ text_of_report report segment.now bench.now) }
 {
     match report {
-        Report::Delays => delay_table(alloc, segment, bench),
+        Report::Delays => delays_of_bench(alloc, segment, bench),
         Report::Run { edges } => run_report(alloc, segment, bench, edges),
         Report::Drill => drill_report(alloc, segment, bench),
     }

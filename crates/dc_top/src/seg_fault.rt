@@ -4,8 +4,9 @@ use std::fmt;
 /// Why an input is no legal segment file: the first check that it fails, in this order.
 #[derive(Clone, Copy, Debug, PartialEq, Eq)]
 pub enum SegFault {
-    /// The value at this path is missing, of a wrong type or out of its range, stands at a key that does not belong there, or has a key that
-    /// is not known; it is a list with too many entries, a loss that is listed twice, or a tick that is not above the one before.
+    /// The value at this path is missing, of a wrong type or out of its range, stands at a key that does not belong there, or has a
+    /// key that is not known; it is a list with too many entries, a loss that is listed twice, or a tick that is not above the one
+    /// before.
     Shape(KeyPath),
     /// The id of the first row whose id an earlier row has.
     Twice(Id),

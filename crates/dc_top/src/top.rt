@@ -48,7 +48,8 @@ pub fn dc_main<I: Source, O: Sink>(
     ensures write_fault { result ≡ WriteFault → Rose (O.faults output.old) (O.faults output.new) }
     ensures read_later { I.faults input.old ≤ I.faults input.new }
     ensures write_later { O.faults output.old ≤ O.faults output.new }
-    ensures complete { IsServable (command_of (map string_bytes words.now)) (I.left input.old) → ¬ Rose (I.faults input.old) (I.faults input.new)
+    ensures complete { IsServable (command_of (map string_bytes words.now)) (I.left input.old)
+        → ¬ Rose (I.faults input.old) (I.faults input.new)
         → ¬ Rose (O.faults output.old) (O.faults output.new) → (result ≡ Done) ⊎ (result ≡ NoMemory) }
 {
     *bench = None;
@@ -91,7 +92,8 @@ fn answer<I: Source, O: Sink>(
 ) -> Outcome
     requires ranges { HasRanges command }
     requires idle { bench.old ≡ None }
-    ensures answered { AnsweredOver command result (I.left input.old) (I.left input.new) (O.taken output.old) (O.taken output.new) bench.new }
+    ensures answered { AnsweredOver command result (I.left input.old) (I.left input.new) (O.taken output.old)
+        (O.taken output.new) bench.new }
     ensures idle { (DrivesWire (Some command) → ⊥) → bench.new ≡ None }
     ensures too_long { Gave (I.left input.old) (I.left input.new) (λ bytes. (result ≡ TooLong) ↔ (input_limit < length bytes)) }
     ensures read_fault { result ≡ ReadFault → Rose (I.faults input.old) (I.faults input.new) }
@@ -121,14 +123,14 @@ fn serve<O: Sink>(
     ensures fault { result ≡ WriteFault → Rose (O.faults output.old) (O.faults output.new) }
     ensures later { O.faults output.old ≤ O.faults output.new }
 {
-    match text_of(alloc, command, bytes, bench) {
+    match command_text(alloc, command, bytes, bench) {
         Ok(text) => write(output, &text),
         Err(outcome) => outcome,
     }
 }
 
 // The text of a command over the whole input, or the answer where nothing is written: a row for each command.
-fn text_of(
+fn command_text(
     alloc: Global,
     command: Command,
     bytes: &[u8],

@@ -17,9 +17,7 @@ pub fn read_words(alloc: Global, words: &[String]) -> Result<Option<Command>, No
     ensures is { IfOk result (λ command. command ≡ command_of (map string_bytes words.now)) }
     ensures ranges { IfOk result (λ command. IfSome command HasRanges) }
 {
-    let Ok(line) = command_line(alloc) else {
-        return Err(NoMemory);
-    };
+    let line = command_line(alloc)?;
     match line.try_get_matches_from(words) {
         Ok(matches) => Ok(command_in(&matches)),
         Err(error) => match error.kind() {

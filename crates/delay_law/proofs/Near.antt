@@ -22,7 +22,7 @@ use Rattle.dc_topology.specs.declared.error.TopologyError.{TopologyError}
 use Rattle.dc_topology.proofs.Exported.{not_both, same_tree, listed}
 use Rattle.esc_regs.specs.declared.clock_kind.ClockKind.{ClockKind}
 use Rattle.esc_regs.specs.declared.clock_kind.ClockKind.TheVariants as kind
-use Rattle.segment_bounds.specs.Bounds.{delay_at, delay_bound_at}
+use Rattle.segment_bounds.specs.Bounds.{wire_delay_at, delay_bound_at}
 use Rattle.segment_file.specs.Legal.{IsLegal}
 use Rattle.segment_file.specs.Segment.{RowValue, SegmentValue, clock_at, is_clock as is_clock_row, is_measuring as is_measuring_row, measures_at, no_row, reference_row, row_at, row_of, tree_row, tree_rows}
 use Rattle.segment_file.proofs.Exported.{legal_measurable, legal_reference, legal_round_trip, order_many, row_within, rows_many}
@@ -135,8 +135,8 @@ module _ (s : SegmentValue) (legal : IsLegal s) where
 
   -- told times give near delays
   near_of : (sent : ℕ) (w : Words) → w.slaves ≡ words → AreTold s sent w.latches → (p d : ℕ) → p < length s.rows → clock_at s.rows (row_at s p) ≡ true
-      → slice_index_or (delays_of (master_of s) w) p None ≡ Some d → IsNear (1000000 * d) (delay_at s (row_at s p)) (delay_bound_at s (row_at s p))
-  unfolding delay_at delay_bound_at
+      → slice_index_or (delays_of (master_of s) w) p None ≡ Some d → IsNear (1000000 * d) (wire_delay_at s (row_at s p)) (delay_bound_at s (row_at s p))
+  unfolding wire_delay_at delay_bound_at
   near_of sent w are told p d low clock is =
       let many = rows_many s in
       let r = row_at s p in

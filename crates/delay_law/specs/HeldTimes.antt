@@ -20,7 +20,8 @@ port_register p = 0x0900 + 4 * port_number p
 -- they are what the clock of the row, correcting nothing, showed at the visits of a frame that was sent then
 pub record HoldsTimes (row : RowValue) (sent : ℕ) (v : Slave) : Type 0 where
   pub port0 : holds 4 0x0900 v.registers ≡ shown_at row (sent + v.visits.arrive) % 2 ^ 32
-  pub ports : (p : Port) (at : ℕ) → back_into v.visits p ≡ Some at → holds 4 (port_register p) v.registers ≡ shown_at row (sent + at) % 2 ^ 32
+  pub ports : (p : Port) (at : ℕ) → back_into v.visits p ≡ Some at
+      → holds 4 (port_register p) v.registers ≡ shown_at row (sent + at) % 2 ^ 32
   pub unit : holds 8 0x0918 v.registers ≡ shown_at row (sent + v.visits.arrive)
 
 -- at each measuring slave

@@ -24,23 +24,27 @@ ghost use Rattle.delay_law.specs.NearDelays.{AreNear};
 /// A segment stays that of its file, whatever frames are sent.
 pub fn segments_stay()
     ensures start { (s : SegmentValue) → IsLegal s → IsOfFile s (started_segment s) }
-    ensures step { (s : SegmentValue) (t : SegmentState) (wait_ns : ℕ) (f : FrameValue) → IsLegal s → IsOfFile s t → IsOfFile s (segment_step t wait_ns f).0 }
+    ensures step { (s : SegmentValue) (t : SegmentState) (wait_ns : ℕ) (f : FrameValue) → IsLegal s → IsOfFile s t
+        → IsOfFile s (segment_step t wait_ns f).0 }
 {}
 
 /// At the start no clock has anything to correct, and none gets anything from a frame that does not write the low half of
 /// the system time (0x0910): so each goes on counting 10 ns a tick from its start.
 pub fn clocks_stay_at_rest()
     ensures start { (s : SegmentValue) → IsLegal s → AllRest s (started_segment s).slaves }
-    ensures step { (s : SegmentValue) (t : SegmentState) (wait_ns : ℕ) (f : FrameValue) → IsLegal s → IsOfFile s t → AreFar 0x0910 4 f.datagrams
+    ensures step { (s : SegmentValue) (t : SegmentState) (wait_ns : ℕ) (f : FrameValue) → IsLegal s → IsOfFile s t
+        → AreFar 0x0910 4 f.datagrams
         → AllRest s t.slaves → AllRest s (segment_step t wait_ns f).0.slaves }
 {}
 
 /// Receive times stay where a frame does not write them (0x0900), lost or not. A Latch that comes back leaves in each
 /// measuring slave what its clock, at rest, showed at the visits of that frame.
 pub fn receive_times_are_of_the_latch()
-    ensures kept { (s : SegmentValue) (t : SegmentState) (sent wait_ns : ℕ) (f : FrameValue) → IsLegal s → IsOfFile s t → AreFar 0x0900 4 f.datagrams
+    ensures kept { (s : SegmentValue) (t : SegmentState) (sent wait_ns : ℕ) (f : FrameValue) → IsLegal s → IsOfFile s t
+        → AreFar 0x0900 4 f.datagrams
         → AllHold s sent t.slaves → AllHold s sent (segment_step t wait_ns f).0.slaves }
-    ensures latched { (s : SegmentValue) (t : SegmentState) (wait_ns : ℕ) (f g : FrameValue) → IsLegal s → IsOfFile s t → f.datagrams ≡ latch_datagrams
+    ensures latched { (s : SegmentValue) (t : SegmentState) (wait_ns : ℕ) (f g : FrameValue) → IsLegal s → IsOfFile s t
+        → f.datagrams ≡ latch_datagrams
         → (segment_step t wait_ns f).1 ≡ Some g → AllRest s t.slaves → AllHold s (leaves_at t wait_ns) (segment_step t wait_ns f).0.slaves }
 {}
 
@@ -53,9 +57,12 @@ pub fn clocks_rest()
 /// back, whichever tries were lost before and after it; and so the master was told. That Latch was sent at its number times
 /// the frame period, and visits each slave by the path sums of the tree.
 pub fn times_of_the_latch()
-    ensures held { (s : SegmentValue) (run : RunEnd) → IsCommissioned s run → AllHold s (latch_sent s (words_after s run)) run.state.slaves }
-    ensures told { (s : SegmentValue) (run : RunEnd) → IsCommissioned s run → AreTold s (latch_sent s (words_after s run)) (words_after s run).latches }
-    ensures visits { (s : SegmentValue) (run : RunEnd) (p : ℕ) (v : Slave) → IsLegal s → commissioned s ≡ Some run → slice_get run.state.slaves p ≡ Some v
+    ensures held { (s : SegmentValue) (run : RunEnd) → IsCommissioned s run
+        → AllHold s (latch_sent s (words_after s run)) run.state.slaves }
+    ensures told { (s : SegmentValue) (run : RunEnd) → IsCommissioned s run
+        → AreTold s (latch_sent s (words_after s run)) (words_after s run).latches }
+    ensures visits { (s : SegmentValue) (run : RunEnd) (p : ℕ) (v : Slave) → IsLegal s → commissioned s ≡ Some run
+        → slice_get run.state.slaves p ≡ Some v
         → v.visits ≡ visits_of (tree_rows s.rows) (row_at s p) }
 {}
 
@@ -69,8 +76,11 @@ pub fn clocks_at_rest_latch()
 /// Once commissioning has ended with Ok, each measured delay lies within the delay bound of the true one: after it, and at the
 /// end of the run, however that ends.
 pub fn delays_are_near()
-    ensures commissioned { (s : SegmentValue) (run : RunEnd) → IsLegal s → commissioned s ≡ Some run → run.answer ≡ Ok tt → AreNear s (master_after s None run.exchanges).delays }
-    ensures later { (s : SegmentValue) (first run : RunEnd) (frames : Option ℕ) → IsLegal s → commissioned s ≡ Some first → first.answer ≡ Ok tt → run_of s ≡ Some run
+    ensures commissioned { (s : SegmentValue) (run : RunEnd) → IsLegal s → commissioned s ≡ Some run → run.answer ≡ Ok tt
+        → AreNear s (master_after s None run.exchanges).delays }
+    ensures later { (s : SegmentValue) (first run : RunEnd) (frames : Option ℕ) → IsLegal s → commissioned s ≡ Some first
+        → first.answer ≡ Ok tt → run_of s ≡ Some run
         → AreNear s (master_after s frames run.exchanges).delays }
-    ensures whole { (s : SegmentValue) (run : RunEnd) (frames : Option ℕ) → IsLegal s → run_of s ≡ Some run → run.answer ≡ Ok tt → AreNear s (master_after s frames run.exchanges).delays }
+    ensures whole { (s : SegmentValue) (run : RunEnd) (frames : Option ℕ) → IsLegal s → run_of s ≡ Some run → run.answer ≡ Ok tt
+        → AreNear s (master_after s frames run.exchanges).delays }
 {}

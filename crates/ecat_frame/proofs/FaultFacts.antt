@@ -6,12 +6,12 @@ use Rattle.std.proofs.lemmas.Bool.{cases_lt}
 use Rattle.ecat_frame.specs.Faults.{IsFault, IsRefused, IsShort}
 use Rattle.ecat_frame.specs.FrameGrammar.{AreBytes, InGrammar, IsViable}
 use Rattle.ecat_frame.specs.InsideScan.{IsLive, LeadsTo, StopsAt}
-use Rattle.ecat_frame.specs.FramePlace.{Place}
+use Rattle.ecat_frame.specs.FramePart.{Part}
 use Rattle.ecat_frame.specs.Refusals.{Reaches, Reason, refusal, step}
 use Rattle.ecat_frame.specs.Refusals as reason
 use Rattle.ecat_frame.specs.declared.error.FrameError.{FrameError}
 use Rattle.ecat_frame.specs.declared.error.FrameError.TheVariants as fault
-use Rattle.ecat_frame.specs.FramePlace as place
+use Rattle.ecat_frame.specs.FramePart as part
 use Rattle.ecat_frame.proofs.Completions.{completes}
 use Rattle.ecat_frame.proofs.FrameInverse.{frame_inverse}
 use Rattle.ecat_frame.proofs.FrameRead.{frame_read}
@@ -32,30 +32,30 @@ front_viable n bytes v =
 pub frame_viable : (n : ℕ) (bytes : List ℕ) → InGrammar bytes → IsViable (take n bytes)
 frame_viable n bytes g = (drop n bytes, subst InGrammar (sym (take-append-drop n bytes)) g)
 
-read_to_end : (bytes : List ℕ) → InGrammar bytes → (room : ℕ) × Reaches (place.Front 0) bytes (place.Padding room)
+read_to_end : (bytes : List ℕ) → InGrammar bytes → (room : ℕ) × Reaches (part.Front 0) bytes (part.Padding room)
 read_to_end bytes g =
     let r = frame_read g.0 g.1.0 in
-    (r.0, subst (λ bs. Reaches (place.Front 0) bs (place.Padding r.0)) (sym g.1.1) r.1)
+    (r.0, subst (λ bs. Reaches (part.Front 0) bs (part.Padding r.0)) (sym g.1.1) r.1)
 
-pub viable_from_live : (front : List ℕ) (q : Place) → AreBytes front → IsLive q → Reaches (place.Front 0) front q → IsViable front
+pub viable_from_live : (front : List ℕ) (q : Part) → AreBytes front → IsLive q → Reaches (part.Front 0) front q → IsViable front
 viable_from_live front q are live h =
     let c = completes q live in
-    (c.rest, frame_inverse (front ++ c.rest) c.room (All-append IsByte front c.rest are c.are) (reaches_append front c.rest (place.Front 0) q (place.Padding c.room) h c.goes))
+    (c.rest, frame_inverse (front ++ c.rest) c.room (All-append IsByte front c.rest are c.are) (reaches_append front c.rest (part.Front 0) q (part.Padding c.room) h c.goes))
 
 -- where a byte is refused no frame goes on
-no_more : (front rest : List ℕ) (b room : ℕ) (q : Place) (r : Reason) → Reaches (place.Front 0) front q → step q b ≡ Err r → Reaches (place.Front 0) ((front ++ b ∷ []) ++ rest) (place.Padding room) → ⊥
+no_more : (front rest : List ℕ) (b room : ℕ) (q : Part) (r : Reason) → Reaches (part.Front 0) front q → step q b ≡ Err r → Reaches (part.Front 0) ((front ++ b ∷ []) ++ rest) (part.Padding room) → ⊥
 no_more front rest b room q r before refused whole =
-    let split = reaches_split (front ++ b ∷ []) rest (place.Front 0) (place.Padding room) whole in
-    let two = reaches_split front (b ∷ []) (place.Front 0) split.0 split.1.0 in
-    let same = same_place front (place.Front 0) two.0 q two.1.0 before in
+    let split = reaches_split (front ++ b ∷ []) rest (part.Front 0) (part.Padding room) whole in
+    let two = reaches_split front (b ∷ []) (part.Front 0) split.0 split.1.0 in
+    let same = same_place front (part.Front 0) two.0 q two.1.0 before in
     let stepped = two.1.1.1.0 in
     cc
 
-stop_ends : (bytes : List ℕ) (n : ℕ) (at : Place) (r : Reason) → n < length bytes → Reaches (place.Front 0) (take n bytes) at → step at (get_or bytes n 0) ≡ Err r → IsViable (take (n + 1) bytes) → ⊥
+stop_ends : (bytes : List ℕ) (n : ℕ) (at : Part) (r : Reason) → n < length bytes → Reaches (part.Front 0) (take n bytes) at → step at (get_or bytes n 0) ≡ Err r → IsViable (take (n + 1) bytes) → ⊥
 stop_ends bytes n at r inside reached refused v =
     let f = read_to_end (take (n + 1) bytes ++ v.0) v.1 in
     no_more (take n bytes) v.0 (get_or bytes n 0) f.0 at r reached refused
-    (subst (λ l. Reaches (place.Front 0) (l ++ v.0) (place.Padding f.0)) (take_more bytes n 0 inside) f.1)
+    (subst (λ l. Reaches (part.Front 0) (l ++ v.0) (part.Padding f.0)) (take_more bytes n 0 inside) f.1)
 
 fault_of_refusal : (bytes : List ℕ) (why : Reason) (n : ℕ) → IsRefused why n bytes → IsFault bytes (refusal why n)
 fault_of_refusal bytes reason.EtherType n h = h
@@ -78,14 +78,14 @@ refused_from_stop bytes e are s = record {
 pub fault_from_stop : (bytes : List ℕ) (e : FrameError) → AreBytes bytes → StopsAt bytes e → IsFault bytes e
 fault_from_stop bytes e are s = subst (IsFault bytes) (sym s.is) (fault_of_refusal bytes s.why s.n (refused_from_stop bytes e are s))
 
-pub grammar_from_end : (bytes : List ℕ) (q : Place) (room : ℕ) → AreBytes bytes → q ≡ place.Padding room → LeadsTo bytes q → InGrammar bytes
-grammar_from_end bytes q room are e h = frame_inverse bytes room are (subst (Reaches (place.Front 0) bytes) e h.reached)
+pub grammar_from_end : (bytes : List ℕ) (q : Part) (room : ℕ) → AreBytes bytes → q ≡ part.Padding room → LeadsTo bytes q → InGrammar bytes
+grammar_from_end bytes q room are e h = frame_inverse bytes room are (subst (Reaches (part.Front 0) bytes) e h.reached)
 
-pub short_from_inside : (bytes : List ℕ) (q : Place) (n : ℕ) → n ≡ length bytes → AreBytes bytes → LeadsTo bytes q → ((room : ℕ) → q ≡ place.Padding room → ⊥) → IsShort n bytes
+pub short_from_inside : (bytes : List ℕ) (q : Part) (n : ℕ) → n ≡ length bytes → AreBytes bytes → LeadsTo bytes q → ((room : ℕ) → q ≡ part.Padding room → ⊥) → IsShort n bytes
 short_from_inside bytes q n e are h other = record {
   number = e;
   viable = viable_from_live bytes q are h.live h.reached;
-  unfinished = λ g. let f = read_to_end bytes g in other f.0 (same_place bytes (place.Front 0) q (place.Padding f.0) h.reached f.1);
+  unfinished = λ g. let f = read_to_end bytes g in other f.0 (same_place bytes (part.Front 0) q (part.Padding f.0) h.reached f.1);
 }
 
 -- ---- an error rules out a frame and each other error
@@ -125,8 +125,8 @@ not_earlier bytes n m why why' a b h =
 
 same_reason : (bytes : List ℕ) (n m : ℕ) (why why' : Reason) → n ≡ m → IsRefused why n bytes → IsRefused why' m bytes → why ≡ why'
 same_reason bytes n m why why' e a b =
-    let there : Reaches (place.Front 0) (take n bytes) b.at = subst (λ i. Reaches (place.Front 0) (take i bytes) b.at) (sym e) b.reached in
-    let at = same_place (take n bytes) (place.Front 0) a.at b.at a.reached there in
+    let there : Reaches (part.Front 0) (take n bytes) b.at = subst (λ i. Reaches (part.Front 0) (take i bytes) b.at) (sym e) b.reached in
+    let at = same_place (take n bytes) (part.Front 0) a.at b.at a.reached there in
     let one = a.refused in
     let two : step b.at (get_or bytes n 0) ≡ Err why' = subst (λ i. step b.at (get_or bytes i 0) ≡ Err why') (sym e) b.refused in
     cc

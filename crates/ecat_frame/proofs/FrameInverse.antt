@@ -7,12 +7,12 @@ use Rattle.std.proofs.lemmas.Bool.{cases_lt}
 use Rattle.std.proofs.lemmas.Bool.Decides.{nat_tests}
 use Rattle.ecat_frame.specs.Commands.{code_of, commands}
 use Rattle.ecat_frame.specs.FrameGrammar.{AreBytes, DatagramValue, FrameValue, InGrammar, IsDatagram, all_spelled, header_word, length_word_of, more, spelled, spelling, word}
-use Rattle.ecat_frame.specs.FramePlace.{Place}
+use Rattle.ecat_frame.specs.FramePart.{Part}
 use Rattle.ecat_frame.specs.Refusals.{Reaches, after_header, behind, room_for, step}
 use Rattle.ecat_frame.specs.Refusals as reason
 use Rattle.ecat_frame.specs.declared.command.Command.{Command}
 use Rattle.ecat_frame.specs.declared.command.Command.TheVariants.{Nop}
-use Rattle.ecat_frame.specs.FramePlace as place
+use Rattle.ecat_frame.specs.FramePart as part
 use Rattle.ecat_frame.proofs.FrameRead.{FitsLeft, behind_last, behind_more}
 use Rattle.ecat_frame.proofs.Spelled.{length-spelled, spelled-append}
 
@@ -29,52 +29,52 @@ guard_yes true e x y h = (refl, h)
 guard_yes false e x y h = cc
 
 -- the first of the bytes that lead from a place to the end
-pub record First (p : Place) (bytes : List ℕ) (room : ℕ) : Type 0 where
+pub record First (p : Part) (bytes : List ℕ) (room : ℕ) : Type 0 where
   pub byte : ℕ
   pub rest : List ℕ
   pub is : bytes ≡ byte ∷ rest
-  pub to : Place
+  pub to : Part
   pub stepped : step p byte ≡ Ok to
-  pub goes : Reaches to rest (place.Padding room)
+  pub goes : Reaches to rest (part.Padding room)
 
-abbrev is_padding : Place → Bool
-is_padding (place.Padding r) = true
+abbrev is_padding : Part → Bool
+is_padding (part.Padding r) = true
 is_padding _ = false
 
-first_of : (p : Place) (bytes : List ℕ) (room : ℕ) → is_padding p ≡ false → Reaches p bytes (place.Padding room) → First p bytes room
+first_of : (p : Part) (bytes : List ℕ) (room : ℕ) → is_padding p ≡ false → Reaches p bytes (part.Padding room) → First p bytes room
 first_of p [] room e h = let f : is_padding p ≡ true = ap is_padding h in cc
 first_of p (b ∷ bs) room e h = record { byte = b; rest = bs; is = refl; to = h.0; stepped = h.1.0; goes = h.1.1 }
 
-padding_inverse : (r : ℕ) (xs : List ℕ) (room : ℕ) → Reaches (place.Padding r) xs (place.Padding room) → length xs ≤ r
+padding_inverse : (r : ℕ) (xs : List ℕ) (room : ℕ) → Reaches (part.Padding r) xs (part.Padding room) → length xs ≤ r
 padding_inverse r [] room h = omega arith
 padding_inverse r (x ∷ xs) room h =
-    let g = guard (eqb r 0) reason.TooLong (Ok (place.Padding (r - 1))) h.0 h.1.0 in
-    let m : h.0 ≡ place.Padding (r - 1) = cc in
-    let rest : length xs ≤ r - 1 = padding_inverse (r - 1) xs room (subst (λ p. Reaches p xs (place.Padding room)) m h.1.1) in
+    let g = guard (eqb r 0) reason.TooLong (Ok (part.Padding (r - 1))) h.0 h.1.0 in
+    let m : h.0 ≡ part.Padding (r - 1) = cc in
+    let rest : length xs ≤ r - 1 = padding_inverse (r - 1) xs room (subst (λ p. Reaches p xs (part.Padding room)) m h.1.1) in
     let some : 0 < r = positive r g.0 in
     omega arith
   where
     positive : (n : ℕ) → eqb n 0 ≡ false → 0 < n
     positive n e = grind (arith, nat_tests)
 
-body_inverse : (room left body : ℕ) (xs : List ℕ) (end : ℕ) → 0 < body → Reaches (place.Body room left body) xs (place.Padding end) → (body ≤ length xs) × Reaches (behind room left) (drop body xs) (place.Padding end)
+body_inverse : (room left body : ℕ) (xs : List ℕ) (end : ℕ) → 0 < body → Reaches (part.Body room left body) xs (part.Padding end) → (body ≤ length xs) × Reaches (behind room left) (drop body xs) (part.Padding end)
 body_inverse room left body [] end some h = cc
 body_inverse room left body (x ∷ xs) end some h =
     elim (cases_lt 1 body) [
       | inl long ↦
           let e : nat_lt 1 body ≡ true = search (rules, nat_tests) in
-          let m : h.0 ≡ place.Body room left (body - 1) = let s = h.1.0 in let t : step (place.Body room left body) x ≡ Ok (place.Body room left (body - 1)) = rw e refl in cc in
-          let rest = body_inverse room left (body - 1) xs end (omega arith) (subst (λ p. Reaches p xs (place.Padding end)) m h.1.1) in
+          let m : h.0 ≡ part.Body room left (body - 1) = let s = h.1.0 in let t : step (part.Body room left body) x ≡ Ok (part.Body room left (body - 1)) = rw e refl in cc in
+          let rest = body_inverse room left (body - 1) xs end (omega arith) (subst (λ p. Reaches p xs (part.Padding end)) m h.1.1) in
           let f : suc (body - 1) ≡ body = omega arith in
           (omega (arith, rest.0), rw (← f) rest.1)
       | inr last ↦
           let one : body ≡ 1 = omega arith in
           let e : nat_lt 1 body ≡ false = search (rules, nat_tests) in
-          let m : h.0 ≡ behind room left = let s = h.1.0 in let t : step (place.Body room left body) x ≡ Ok (behind room left) = rw e refl in cc in
-          (omega arith, rw one (subst (λ p. Reaches p xs (place.Padding end)) m h.1.1))
+          let m : h.0 ≡ behind room left = let s = h.1.0 in let t : step (part.Body room left body) x ≡ Ok (behind room left) = rw e refl in cc in
+          (omega arith, rw one (subst (λ p. Reaches p xs (part.Padding end)) m h.1.1))
     ]
 
-low_inverse : (room left b : ℕ) (m : Place) → step (place.LengthLow room left) b ≡ Ok m → m ≡ place.LengthHigh room left b
+low_inverse : (room left b : ℕ) (m : Part) → step (part.LengthLow room left) b ≡ Ok m → m ≡ part.LengthHigh room left b
 low_inverse room left b m h =
     let one = guard (nat_lt left (12 + b)) _ _ m h in
     let two = guard (nat_lt (12 + b) left && nat_lt left (24 + b)) _ _ m one.1 in
@@ -95,7 +95,7 @@ fits_from left w small a b c = record {
   ];
 }
 
-high_inverse : (room left low b : ℕ) (m : Place) → low < 256 → b < 256 → step (place.LengthHigh room left low) b ≡ Ok m → FitsLeft left (low + 256 * b) × (m ≡ place.Body room (left - (12 + (low + 256 * b) % 2048)) ((low + 256 * b) % 2048 + 4))
+high_inverse : (room left low b : ℕ) (m : Part) → low < 256 → b < 256 → step (part.LengthHigh room left low) b ≡ Ok m → FitsLeft left (low + 256 * b) × (m ≡ part.Body room (left - (12 + (low + 256 * b) % 2048)) ((low + 256 * b) % 2048 + 4))
 high_inverse room left low b m small byte h =
     let w = low + 256 * b in
     let one = guard (nat_lt left (12 + w % 2048)) _ _ m h in
@@ -104,16 +104,16 @@ high_inverse room left low b m small byte h =
     (fits_from left w (omega arith) one.0 two.0 three.0, cc)
 
 -- a step that leads to one place
-pub record Onward (q : ℕ → Place) (bytes : List ℕ) (room : ℕ) (P : ℕ → Type 0) : Type 0 where
+pub record Onward (q : ℕ → Part) (bytes : List ℕ) (room : ℕ) (P : ℕ → Type 0) : Type 0 where
   pub byte : ℕ
   pub rest : List ℕ
   pub is : bytes ≡ byte ∷ rest
   pub fits : byte < 256
   pub tail_are : AreBytes rest
   pub holds : P byte
-  pub goes : Reaches (q byte) rest (place.Padding room)
+  pub goes : Reaches (q byte) rest (part.Padding room)
 
-onward : (p : Place) (q : ℕ → Place) (bytes : List ℕ) (room : ℕ) (P : ℕ → Type 0) → AreBytes bytes → is_padding p ≡ false → ((b : ℕ) (m : Place) → b < 256 → step p b ≡ Ok m → P b × (m ≡ q b)) → Reaches p bytes (place.Padding room) → Onward q bytes room P
+onward : (p : Part) (q : ℕ → Part) (bytes : List ℕ) (room : ℕ) (P : ℕ → Type 0) → AreBytes bytes → is_padding p ≡ false → ((b : ℕ) (m : Part) → b < 256 → step p b ≡ Ok m → P b × (m ≡ q b)) → Reaches p bytes (part.Padding room) → Onward q bytes room P
 onward p q bytes room P are inner only h =
     let f = first_of p bytes room inner h in
     let whole : AreBytes (f.byte ∷ f.rest) = subst AreBytes f.is are in
@@ -126,7 +126,7 @@ onward p q bytes room P are inner only h =
       fits = small;
       tail_are = All-tail IsByte f.byte f.rest whole;
       holds = o.0;
-      goes = subst (λ x. Reaches x f.rest (place.Padding room)) o.1 f.goes;
+      goes = subst (λ x. Reaches x f.rest (part.Padding room)) o.1 f.goes;
     }
 
 abbrev any : ℕ → Type 0
@@ -233,24 +233,24 @@ pub record Parsed (room left : ℕ) (bytes : List ℕ) (end : ℕ) : Type 0 wher
   pub valid : IsDatagram datagram
   pub within : 12 + length datagram.payload ≤ left
   pub follows : ((more_bit ≡ 0) × (left ≡ 12 + length datagram.payload)) ⊎ ((more_bit ≡ 1) × (24 + length datagram.payload ≤ left))
-  pub goes : Reaches (behind room (left - (12 + length datagram.payload))) rest (place.Padding end)
+  pub goes : Reaches (behind room (left - (12 + length datagram.payload))) rest (part.Padding end)
 
 abbrev command_fits : ℕ → Type 0
 command_fits b = b < 15
 
-command_only : (room left b : ℕ) (m : Place) → step (place.Head room left 0) b ≡ Ok m → command_fits b × (m ≡ place.Head room left 1)
+command_only : (room left b : ℕ) (m : Part) → step (part.Head room left 0) b ≡ Ok m → command_fits b × (m ≡ part.Head room left 1)
 command_only room left b m h =
-    let g = guard (nat_lt 14 b) reason.Command (Ok (place.Head room left 1)) m h in
+    let g = guard (nat_lt 14 b) reason.Command (Ok (part.Head room left 1)) m h in
     (let e = g.0 in grind (arith, nat_tests), cc)
 
-cells_of : (room left end : ℕ) (bytes : List ℕ) (f0 : Onward (λ _. place.Head room left 1) bytes end command_fits) (f1 : Onward (λ _. place.Head room left 2) f0.rest end any) (f2 : Onward (λ _. place.Head room left 3) f1.rest end any) (f3 : Onward (λ _. place.Head room left 4) f2.rest end any) (f4 : Onward (λ _. place.Head room left 5) f3.rest end any) (f5 : Onward (λ _. place.LengthLow room left) f4.rest end any) (f6 : Onward (λ b. place.LengthHigh room left b) f5.rest end any) (f7 : Onward (λ b. place.Body room (left - (12 + (f6.byte + 256 * b) % 2048)) ((f6.byte + 256 * b) % 2048 + 4)) f6.rest end (λ b. FitsLeft left (f6.byte + 256 * b)))
+cells_of : (room left end : ℕ) (bytes : List ℕ) (f0 : Onward (λ _. part.Head room left 1) bytes end command_fits) (f1 : Onward (λ _. part.Head room left 2) f0.rest end any) (f2 : Onward (λ _. part.Head room left 3) f1.rest end any) (f3 : Onward (λ _. part.Head room left 4) f2.rest end any) (f4 : Onward (λ _. part.Head room left 5) f3.rest end any) (f5 : Onward (λ _. part.LengthLow room left) f4.rest end any) (f6 : Onward (λ b. part.LengthHigh room left b) f5.rest end any) (f7 : Onward (λ b. part.Body room (left - (12 + (f6.byte + 256 * b) % 2048)) ((f6.byte + 256 * b) % 2048 + 4)) f6.rest end (λ b. FitsLeft left (f6.byte + 256 * b)))
     → bytes ≡ f0.byte ∷ f1.byte ∷ f2.byte ∷ f3.byte ∷ f4.byte ∷ f5.byte ∷ f6.byte ∷ f7.byte ∷ f7.rest
 cells_of room left end bytes f0 f1 f2 f3 f4 f5 f6 f7 =
     f0.is ∙ ap (λ t. f0.byte ∷ t) (f1.is ∙ ap (λ t. f1.byte ∷ t) (f2.is ∙ ap (λ t. f2.byte ∷ t) (f3.is ∙ ap (λ t. f3.byte ∷ t) (f4.is ∙ ap (λ t. f4.byte ∷ t) (f5.is ∙ ap (λ t. f5.byte ∷ t) (f6.is ∙ ap (λ t. f6.byte ∷ t) f7.is))))))
 
 -- a datagram is parsed where its length word and the bytes behind it are
 parsed_from : (room left end w : ℕ) (bytes body : List ℕ) (b0 b1 adp ado : ℕ) → w < 65536 → b1 < 256 → adp < 65536 → ado < 65536 → FitsLeft left w → AreBytes body
-    → Reaches (place.Body room (left - (12 + w % 2048)) (w % 2048 + 4)) body (place.Padding end)
+    → Reaches (part.Body room (left - (12 + w % 2048)) (w % 2048 + 4)) body (part.Padding end)
     → (w % 2048 + 4 ≤ length body → length (take (w % 2048) (drop 2 body)) ≡ w % 2048 → bytes ≡ spelled (w / 32768) (datagram_of b0 b1 adp ado w (word_at body) (take (w % 2048) (drop 2 body)) (word_at (drop (w % 2048) (drop 2 body)))) ++ drop (w % 2048 + 4) body)
     → Parsed room left bytes end
 parsed_from room left end w bytes body b0 b1 adp ado small f1 fadp fado fits are goes is =
@@ -279,7 +279,7 @@ parsed_from room left end w bytes body b0 b1 adp ado small f1 fadp fado fits are
       goes = rw size back.1;
     }
 
-parsed_8 : (room left end : ℕ) (bytes : List ℕ) (f0 : Onward (λ _. place.Head room left 1) bytes end command_fits) (f1 : Onward (λ _. place.Head room left 2) f0.rest end any) (f2 : Onward (λ _. place.Head room left 3) f1.rest end any) (f3 : Onward (λ _. place.Head room left 4) f2.rest end any) (f4 : Onward (λ _. place.Head room left 5) f3.rest end any) (f5 : Onward (λ _. place.LengthLow room left) f4.rest end any) (f6 : Onward (λ b. place.LengthHigh room left b) f5.rest end any) (f7 : Onward (λ b. place.Body room (left - (12 + (f6.byte + 256 * b) % 2048)) ((f6.byte + 256 * b) % 2048 + 4)) f6.rest end (λ b. FitsLeft left (f6.byte + 256 * b)))
+parsed_8 : (room left end : ℕ) (bytes : List ℕ) (f0 : Onward (λ _. part.Head room left 1) bytes end command_fits) (f1 : Onward (λ _. part.Head room left 2) f0.rest end any) (f2 : Onward (λ _. part.Head room left 3) f1.rest end any) (f3 : Onward (λ _. part.Head room left 4) f2.rest end any) (f4 : Onward (λ _. part.Head room left 5) f3.rest end any) (f5 : Onward (λ _. part.LengthLow room left) f4.rest end any) (f6 : Onward (λ b. part.LengthHigh room left b) f5.rest end any) (f7 : Onward (λ b. part.Body room (left - (12 + (f6.byte + 256 * b) % 2048)) ((f6.byte + 256 * b) % 2048 + 4)) f6.rest end (λ b. FitsLeft left (f6.byte + 256 * b)))
     → Parsed room left bytes end
 parsed_8 room left end bytes f0 f1 f2 f3 f4 f5 f6 f7 =
     parsed_from room left end (f6.byte + 256 * f7.byte) bytes f7.rest f0.byte f1.byte (f2.byte + 256 * f3.byte) (f4.byte + 256 * f5.byte)
@@ -289,44 +289,44 @@ parsed_8 room left end bytes f0 f1 f2 f3 f4 f5 f6 f7 =
     pair_lt : (a b : ℕ) → a < 256 → b < 256 → a + 256 * b < 65536
     pair_lt a b h k = omega arith
 
-parsed_7 : (room left end : ℕ) (bytes : List ℕ) (f0 : Onward (λ _. place.Head room left 1) bytes end command_fits) (f1 : Onward (λ _. place.Head room left 2) f0.rest end any) (f2 : Onward (λ _. place.Head room left 3) f1.rest end any) (f3 : Onward (λ _. place.Head room left 4) f2.rest end any) (f4 : Onward (λ _. place.Head room left 5) f3.rest end any) (f5 : Onward (λ _. place.LengthLow room left) f4.rest end any) (f6 : Onward (λ b. place.LengthHigh room left b) f5.rest end any)
+parsed_7 : (room left end : ℕ) (bytes : List ℕ) (f0 : Onward (λ _. part.Head room left 1) bytes end command_fits) (f1 : Onward (λ _. part.Head room left 2) f0.rest end any) (f2 : Onward (λ _. part.Head room left 3) f1.rest end any) (f3 : Onward (λ _. part.Head room left 4) f2.rest end any) (f4 : Onward (λ _. part.Head room left 5) f3.rest end any) (f5 : Onward (λ _. part.LengthLow room left) f4.rest end any) (f6 : Onward (λ b. part.LengthHigh room left b) f5.rest end any)
     → Parsed room left bytes end
 parsed_7 room left end bytes f0 f1 f2 f3 f4 f5 f6 =
-    parsed_8 room left end bytes f0 f1 f2 f3 f4 f5 f6 (onward (place.LengthHigh room left f6.byte) (λ b. place.Body room (left - (12 + (f6.byte + 256 * b) % 2048)) ((f6.byte + 256 * b) % 2048 + 4)) f6.rest end (λ b. FitsLeft left (f6.byte + 256 * b)) f6.tail_are refl (λ b m small s. high_inverse room left f6.byte b m f6.fits small s) f6.goes)
+    parsed_8 room left end bytes f0 f1 f2 f3 f4 f5 f6 (onward (part.LengthHigh room left f6.byte) (λ b. part.Body room (left - (12 + (f6.byte + 256 * b) % 2048)) ((f6.byte + 256 * b) % 2048 + 4)) f6.rest end (λ b. FitsLeft left (f6.byte + 256 * b)) f6.tail_are refl (λ b m small s. high_inverse room left f6.byte b m f6.fits small s) f6.goes)
 
-parsed_6 : (room left end : ℕ) (bytes : List ℕ) (f0 : Onward (λ _. place.Head room left 1) bytes end command_fits) (f1 : Onward (λ _. place.Head room left 2) f0.rest end any) (f2 : Onward (λ _. place.Head room left 3) f1.rest end any) (f3 : Onward (λ _. place.Head room left 4) f2.rest end any) (f4 : Onward (λ _. place.Head room left 5) f3.rest end any) (f5 : Onward (λ _. place.LengthLow room left) f4.rest end any)
+parsed_6 : (room left end : ℕ) (bytes : List ℕ) (f0 : Onward (λ _. part.Head room left 1) bytes end command_fits) (f1 : Onward (λ _. part.Head room left 2) f0.rest end any) (f2 : Onward (λ _. part.Head room left 3) f1.rest end any) (f3 : Onward (λ _. part.Head room left 4) f2.rest end any) (f4 : Onward (λ _. part.Head room left 5) f3.rest end any) (f5 : Onward (λ _. part.LengthLow room left) f4.rest end any)
     → Parsed room left bytes end
 parsed_6 room left end bytes f0 f1 f2 f3 f4 f5 =
-    parsed_7 room left end bytes f0 f1 f2 f3 f4 f5 (onward (place.LengthLow room left) (λ b. place.LengthHigh room left b) f5.rest end any f5.tail_are refl (λ b m _ s. (tt, low_inverse room left b m s)) f5.goes)
+    parsed_7 room left end bytes f0 f1 f2 f3 f4 f5 (onward (part.LengthLow room left) (λ b. part.LengthHigh room left b) f5.rest end any f5.tail_are refl (λ b m _ s. (tt, low_inverse room left b m s)) f5.goes)
 
-parsed_5 : (room left end : ℕ) (bytes : List ℕ) (f0 : Onward (λ _. place.Head room left 1) bytes end command_fits) (f1 : Onward (λ _. place.Head room left 2) f0.rest end any) (f2 : Onward (λ _. place.Head room left 3) f1.rest end any) (f3 : Onward (λ _. place.Head room left 4) f2.rest end any) (f4 : Onward (λ _. place.Head room left 5) f3.rest end any)
+parsed_5 : (room left end : ℕ) (bytes : List ℕ) (f0 : Onward (λ _. part.Head room left 1) bytes end command_fits) (f1 : Onward (λ _. part.Head room left 2) f0.rest end any) (f2 : Onward (λ _. part.Head room left 3) f1.rest end any) (f3 : Onward (λ _. part.Head room left 4) f2.rest end any) (f4 : Onward (λ _. part.Head room left 5) f3.rest end any)
     → Parsed room left bytes end
 parsed_5 room left end bytes f0 f1 f2 f3 f4 =
-    parsed_6 room left end bytes f0 f1 f2 f3 f4 (onward (place.Head room left 5) (λ _. place.LengthLow room left) f4.rest end any f4.tail_are refl (λ b m _ s. (tt, (cc))) f4.goes)
+    parsed_6 room left end bytes f0 f1 f2 f3 f4 (onward (part.Head room left 5) (λ _. part.LengthLow room left) f4.rest end any f4.tail_are refl (λ b m _ s. (tt, (cc))) f4.goes)
 
-parsed_4 : (room left end : ℕ) (bytes : List ℕ) (f0 : Onward (λ _. place.Head room left 1) bytes end command_fits) (f1 : Onward (λ _. place.Head room left 2) f0.rest end any) (f2 : Onward (λ _. place.Head room left 3) f1.rest end any) (f3 : Onward (λ _. place.Head room left 4) f2.rest end any)
+parsed_4 : (room left end : ℕ) (bytes : List ℕ) (f0 : Onward (λ _. part.Head room left 1) bytes end command_fits) (f1 : Onward (λ _. part.Head room left 2) f0.rest end any) (f2 : Onward (λ _. part.Head room left 3) f1.rest end any) (f3 : Onward (λ _. part.Head room left 4) f2.rest end any)
     → Parsed room left bytes end
 parsed_4 room left end bytes f0 f1 f2 f3 =
-    parsed_5 room left end bytes f0 f1 f2 f3 (onward (place.Head room left 4) (λ _. place.Head room left 5) f3.rest end any f3.tail_are refl (λ b m _ s. (tt, (cc))) f3.goes)
+    parsed_5 room left end bytes f0 f1 f2 f3 (onward (part.Head room left 4) (λ _. part.Head room left 5) f3.rest end any f3.tail_are refl (λ b m _ s. (tt, (cc))) f3.goes)
 
-parsed_3 : (room left end : ℕ) (bytes : List ℕ) (f0 : Onward (λ _. place.Head room left 1) bytes end command_fits) (f1 : Onward (λ _. place.Head room left 2) f0.rest end any) (f2 : Onward (λ _. place.Head room left 3) f1.rest end any)
+parsed_3 : (room left end : ℕ) (bytes : List ℕ) (f0 : Onward (λ _. part.Head room left 1) bytes end command_fits) (f1 : Onward (λ _. part.Head room left 2) f0.rest end any) (f2 : Onward (λ _. part.Head room left 3) f1.rest end any)
     → Parsed room left bytes end
 parsed_3 room left end bytes f0 f1 f2 =
-    parsed_4 room left end bytes f0 f1 f2 (onward (place.Head room left 3) (λ _. place.Head room left 4) f2.rest end any f2.tail_are refl (λ b m _ s. (tt, (cc))) f2.goes)
+    parsed_4 room left end bytes f0 f1 f2 (onward (part.Head room left 3) (λ _. part.Head room left 4) f2.rest end any f2.tail_are refl (λ b m _ s. (tt, (cc))) f2.goes)
 
-parsed_2 : (room left end : ℕ) (bytes : List ℕ) (f0 : Onward (λ _. place.Head room left 1) bytes end command_fits) (f1 : Onward (λ _. place.Head room left 2) f0.rest end any)
+parsed_2 : (room left end : ℕ) (bytes : List ℕ) (f0 : Onward (λ _. part.Head room left 1) bytes end command_fits) (f1 : Onward (λ _. part.Head room left 2) f0.rest end any)
     → Parsed room left bytes end
 parsed_2 room left end bytes f0 f1 =
-    parsed_3 room left end bytes f0 f1 (onward (place.Head room left 2) (λ _. place.Head room left 3) f1.rest end any f1.tail_are refl (λ b m _ s. (tt, (cc))) f1.goes)
+    parsed_3 room left end bytes f0 f1 (onward (part.Head room left 2) (λ _. part.Head room left 3) f1.rest end any f1.tail_are refl (λ b m _ s. (tt, (cc))) f1.goes)
 
-parsed_1 : (room left end : ℕ) (bytes : List ℕ) (f0 : Onward (λ _. place.Head room left 1) bytes end command_fits)
+parsed_1 : (room left end : ℕ) (bytes : List ℕ) (f0 : Onward (λ _. part.Head room left 1) bytes end command_fits)
     → Parsed room left bytes end
 parsed_1 room left end bytes f0 =
-    parsed_2 room left end bytes f0 (onward (place.Head room left 1) (λ _. place.Head room left 2) f0.rest end any f0.tail_are refl (λ b m _ s. (tt, (cc))) f0.goes)
+    parsed_2 room left end bytes f0 (onward (part.Head room left 1) (λ _. part.Head room left 2) f0.rest end any f0.tail_are refl (λ b m _ s. (tt, (cc))) f0.goes)
 
-pub head_inverse : (room left : ℕ) (bytes : List ℕ) (end : ℕ) → AreBytes bytes → Reaches (place.Head room left 0) bytes (place.Padding end) → Parsed room left bytes end
+pub head_inverse : (room left : ℕ) (bytes : List ℕ) (end : ℕ) → AreBytes bytes → Reaches (part.Head room left 0) bytes (part.Padding end) → Parsed room left bytes end
 head_inverse room left bytes end are h =
-    parsed_1 room left end bytes (onward (place.Head room left 0) (λ _. place.Head room left 1) bytes end command_fits are refl (λ b m _ s. command_only room left b m s) h)
+    parsed_1 room left end bytes (onward (part.Head room left 0) (λ _. part.Head room left 1) bytes end command_fits are refl (λ b m _ s. command_only room left b m s) h)
 
 -- the datagrams of a frame, and the padding behind them
 pub record Listed (room left : ℕ) (bytes : List ℕ) (end : ℕ) : Type 0 where
@@ -337,7 +337,7 @@ pub record Listed (room left : ℕ) (bytes : List ℕ) (end : ℕ) : Type 0 wher
   pub some : more datagrams ≡ 1
   pub counted : length (all_spelled datagrams) ≡ left
   pub tail_are : AreBytes rest
-  pub goes : Reaches (place.Padding room) rest (place.Padding end)
+  pub goes : Reaches (part.Padding room) rest (part.Padding end)
 
 listed_last : (room left : ℕ) (bytes : List ℕ) (end : ℕ) (p : Parsed room left bytes end) → p.more_bit ≡ 0 → left ≡ 12 + length p.datagram.payload → Listed room left bytes end
 unfolding all_spelled
@@ -349,7 +349,7 @@ listed_last room left bytes end p last counted = record {
   some = refl;
   counted = ap length (append-nil (spelled 0 p.datagram)) ∙ length-spelled 0 p.datagram ∙ sym counted;
   tail_are = p.tail_are;
-  goes = subst (λ q. Reaches q p.rest (place.Padding end)) (behind_last room (left - (12 + length p.datagram.payload)) (omega arith)) p.goes;
+  goes = subst (λ q. Reaches q p.rest (part.Padding end)) (behind_last room (left - (12 + length p.datagram.payload)) (omega arith)) p.goes;
 }
 
 listed_more : (room left : ℕ) (bytes : List ℕ) (end : ℕ) (p : Parsed room left bytes end) → p.more_bit ≡ 1 → 24 + length p.datagram.payload ≤ left
@@ -372,14 +372,14 @@ listed_more room left bytes end p one long l = record {
   goes = l.goes;
 }
 
-pub datagrams_inverse : (fuel room left : ℕ) (bytes : List ℕ) (end : ℕ) → left ≤ fuel → AreBytes bytes → Reaches (place.Head room left 0) bytes (place.Padding end) → Listed room left bytes end
+pub datagrams_inverse : (fuel room left : ℕ) (bytes : List ℕ) (end : ℕ) → left ≤ fuel → AreBytes bytes → Reaches (part.Head room left 0) bytes (part.Padding end) → Listed room left bytes end
 datagrams_inverse zero room left bytes end low are h =
     let p = head_inverse room left bytes end are h in
     absurd (let a = p.within in omega (arith, a))
 datagrams_inverse (suc fuel) room left bytes end low are h =
     go (head_inverse room left bytes end are h)
     (λ p long some. datagrams_inverse fuel room (left - (12 + length p.datagram.payload)) p.rest end (omega arith) p.tail_are
-    (subst (λ q. Reaches q p.rest (place.Padding end)) (behind_more room (left - (12 + length p.datagram.payload)) (omega arith)) p.goes))
+    (subst (λ q. Reaches q p.rest (part.Padding end)) (behind_more room (left - (12 + length p.datagram.payload)) (omega arith)) p.goes))
   where
     go : (p : Parsed room left bytes end) → ((p : Parsed room left bytes end) → 24 + length p.datagram.payload ≤ left → 0 < left → Listed room (left - (12 + length p.datagram.payload)) p.rest end) → Listed room left bytes end
     go p on =
@@ -396,9 +396,9 @@ pub record Fronted (n : ℕ) (bytes : List ℕ) (end : ℕ) : Type 0 where
   pub counted : n + length front ≡ 12
   pub front_are : AreBytes front
   pub tail_are : AreBytes rest
-  pub goes : Reaches (place.Front 12) rest (place.Padding end)
+  pub goes : Reaches (part.Front 12) rest (part.Padding end)
 
-front_on : (n : ℕ) (bytes : List ℕ) (end : ℕ) (f : First (place.Front n) bytes end) → f.byte < 256 → (l : Fronted (n + 1) f.rest end) → Fronted n bytes end
+front_on : (n : ℕ) (bytes : List ℕ) (end : ℕ) (f : First (part.Front n) bytes end) → f.byte < 256 → (l : Fronted (n + 1) f.rest end) → Fronted n bytes end
 front_on n bytes end f small l = record {
   front = f.byte ∷ l.front;
   rest = l.rest;
@@ -409,13 +409,13 @@ front_on n bytes end f small l = record {
   goes = l.goes;
 }
 
-front_step : (n b : ℕ) (m : Place) → n < 12 → step (place.Front n) b ≡ Ok m → m ≡ place.Front (n + 1)
+front_step : (n b : ℕ) (m : Part) → n < 12 → step (part.Front n) b ≡ Ok m → m ≡ part.Front (n + 1)
 front_step n b m h s =
     let e : nat_lt n 12 ≡ true = search (rules, nat_tests) in
-    let t : step (place.Front n) b ≡ Ok (place.Front (n + 1)) = rw e refl in
+    let t : step (part.Front n) b ≡ Ok (part.Front (n + 1)) = rw e refl in
     cc
 
-front_inverse : (j n : ℕ) (bytes : List ℕ) (end : ℕ) → n + j ≡ 12 → AreBytes bytes → Reaches (place.Front n) bytes (place.Padding end) → Fronted n bytes end
+front_inverse : (j n : ℕ) (bytes : List ℕ) (end : ℕ) → n + j ≡ 12 → AreBytes bytes → Reaches (part.Front n) bytes (part.Padding end) → Fronted n bytes end
 front_inverse zero n bytes end e are h = record {
   front = [];
   rest = bytes;
@@ -423,23 +423,23 @@ front_inverse zero n bytes end e are h = record {
   counted = e;
   front_are = All-nil IsByte;
   tail_are = are;
-  goes = let f : n ≡ 12 = omega arith in subst (λ m. Reaches (place.Front m) bytes (place.Padding end)) f h;
+  goes = let f : n ≡ 12 = omega arith in subst (λ m. Reaches (part.Front m) bytes (part.Padding end)) f h;
 }
 front_inverse (suc j) n bytes end e are h =
-    let f = first_of (place.Front n) bytes end refl h in
+    let f = first_of (part.Front n) bytes end refl h in
     let whole : AreBytes (f.byte ∷ f.rest) = subst AreBytes f.is are in
     front_on n bytes end f (All-head IsByte f.byte f.rest whole)
     (front_inverse j (n + 1) f.rest end (omega arith) (All-tail IsByte f.byte f.rest whole)
-    (subst (λ q. Reaches q f.rest (place.Padding end)) (front_step n f.byte f.to (omega arith) f.stepped) f.goes))
+    (subst (λ q. Reaches q f.rest (part.Padding end)) (front_step n f.byte f.to (omega arith) f.stepped) f.goes))
 
-type_first : (b : ℕ) (m : Place) → step (place.Front 12) b ≡ Ok m → (b ≡ 0x88) × (m ≡ place.Front 13)
+type_first : (b : ℕ) (m : Part) → step (part.Front 12) b ≡ Ok m → (b ≡ 0x88) × (m ≡ part.Front 13)
 type_first b m h =
-    let g = guard_yes (eqb b 0x88) reason.EtherType (Ok (place.Front 13)) m h in
+    let g = guard_yes (eqb b 0x88) reason.EtherType (Ok (part.Front 13)) m h in
     (let e = g.0 in grind (arith, nat_tests), cc)
 
-type_second : (b : ℕ) (m : Place) → step (place.Front 13) b ≡ Ok m → (b ≡ 0xA4) × (m ≡ place.HeaderLow)
+type_second : (b : ℕ) (m : Part) → step (part.Front 13) b ≡ Ok m → (b ≡ 0xA4) × (m ≡ part.HeaderLow)
 type_second b m h =
-    let g = guard_yes (eqb b 0xA4) reason.EtherType (Ok place.HeaderLow) m h in
+    let g = guard_yes (eqb b 0xA4) reason.EtherType (Ok part.HeaderLow) m h in
     (let e = g.0 in grind (arith, nat_tests), cc)
 
 -- a header word that a frame may have
@@ -451,10 +451,10 @@ pub record IsHeader (w : ℕ) : Type 0 where
 is_header : (w : ℕ) → not (eqb (w / 4096) 1) ≡ false → (nat_lt (w % 2048) 12 || nat_lt 1498 (w % 2048)) ≡ false → IsHeader w
 is_header w a c = record { type_one = grind (arith, nat_tests); least = grind (arith, nat_tests); most = grind (arith, nat_tests) }
 
-header_inverse : (w : ℕ) (m : Place) → after_header w ≡ Ok m → IsHeader w × (m ≡ place.Head (room_for (w % 2048)) (w % 2048) 0)
+header_inverse : (w : ℕ) (m : Part) → after_header w ≡ Ok m → IsHeader w × (m ≡ part.Head (room_for (w % 2048)) (w % 2048) 0)
 header_inverse w m h =
     let one = guard (not (eqb (w / 4096) 1)) reason.FrameType _ m h in
-    let two = guard (nat_lt (w % 2048) 12 || nat_lt 1498 (w % 2048)) reason.Length (Ok (place.Head (room_for (w % 2048)) (w % 2048) 0)) m one.1 in
+    let two = guard (nat_lt (w % 2048) 12 || nat_lt 1498 (w % 2048)) reason.Length (Ok (part.Head (room_for (w % 2048)) (w % 2048) 0)) m one.1 in
     (is_header w one.0 two.0, cc)
 
 -- the parts make a frame
@@ -486,32 +486,32 @@ in_grammar bytes front rest p q lo hi ds e twelve are e1 e2 small small' is vali
     together to from front' p' q' low high v all behind_all a b c h k g =
         rw (a, b, c, g, word_of_bytes low high h k) (sym (simp append_assoc))
 
-framed : (bytes : List ℕ) (end : ℕ) (f : Fronted 0 bytes end) (a : Onward (λ _. place.Front 13) f.rest end (λ b. b ≡ 0x88)) (b : Onward (λ _. place.HeaderLow) a.rest end (λ b. b ≡ 0xA4)) (c : Onward (λ b. place.HeaderHigh b) b.rest end any) (d : Onward (λ b. place.Head (room_for ((c.byte + 256 * b) % 2048)) ((c.byte + 256 * b) % 2048) 0) c.rest end (λ b. IsHeader (c.byte + 256 * b)))
+framed : (bytes : List ℕ) (end : ℕ) (f : Fronted 0 bytes end) (a : Onward (λ _. part.Front 13) f.rest end (λ b. b ≡ 0x88)) (b : Onward (λ _. part.HeaderLow) a.rest end (λ b. b ≡ 0xA4)) (c : Onward (λ b. part.HeaderHigh b) b.rest end any) (d : Onward (λ b. part.Head (room_for ((c.byte + 256 * b) % 2048)) ((c.byte + 256 * b) % 2048) 0) c.rest end (λ b. IsHeader (c.byte + 256 * b)))
     (l : Listed (room_for ((c.byte + 256 * d.byte) % 2048)) ((c.byte + 256 * d.byte) % 2048) d.rest end) → InGrammar bytes
 framed bytes end f a b c d l =
     in_grammar bytes f.front l.rest a.byte b.byte c.byte d.byte l.datagrams
     (f.is ∙ ap (λ t. f.front ++ t) (a.is ∙ ap (λ t. a.byte ∷ t) (b.is ∙ ap (λ t. b.byte ∷ t) (c.is ∙ ap (λ t. c.byte ∷ t) (d.is ∙ ap (λ t. d.byte ∷ t) l.is)))))
     (omega (arith, f.counted)) f.front_are a.holds b.holds c.fits d.fits d.holds l.valid l.counted l.tail_are (padding_inverse (room_for ((c.byte + 256 * d.byte) % 2048)) l.rest end l.goes)
 
-frame_5 : (bytes : List ℕ) (end : ℕ) (f : Fronted 0 bytes end) (a : Onward (λ _. place.Front 13) f.rest end (λ b. b ≡ 0x88)) (b : Onward (λ _. place.HeaderLow) a.rest end (λ b. b ≡ 0xA4)) (c : Onward (λ b. place.HeaderHigh b) b.rest end any) (d : Onward (λ b. place.Head (room_for ((c.byte + 256 * b) % 2048)) ((c.byte + 256 * b) % 2048) 0) c.rest end (λ b. IsHeader (c.byte + 256 * b))) → InGrammar bytes
+frame_5 : (bytes : List ℕ) (end : ℕ) (f : Fronted 0 bytes end) (a : Onward (λ _. part.Front 13) f.rest end (λ b. b ≡ 0x88)) (b : Onward (λ _. part.HeaderLow) a.rest end (λ b. b ≡ 0xA4)) (c : Onward (λ b. part.HeaderHigh b) b.rest end any) (d : Onward (λ b. part.Head (room_for ((c.byte + 256 * b) % 2048)) ((c.byte + 256 * b) % 2048) 0) c.rest end (λ b. IsHeader (c.byte + 256 * b))) → InGrammar bytes
 frame_5 bytes end f a b c d =
     framed bytes end f a b c d (datagrams_inverse ((c.byte + 256 * d.byte) % 2048) (room_for ((c.byte + 256 * d.byte) % 2048)) ((c.byte + 256 * d.byte) % 2048) d.rest end (omega arith) d.tail_are d.goes)
 
-frame_4 : (bytes : List ℕ) (end : ℕ) (f : Fronted 0 bytes end) (a : Onward (λ _. place.Front 13) f.rest end (λ b. b ≡ 0x88)) (b : Onward (λ _. place.HeaderLow) a.rest end (λ b. b ≡ 0xA4)) (c : Onward (λ b. place.HeaderHigh b) b.rest end any) → InGrammar bytes
+frame_4 : (bytes : List ℕ) (end : ℕ) (f : Fronted 0 bytes end) (a : Onward (λ _. part.Front 13) f.rest end (λ b. b ≡ 0x88)) (b : Onward (λ _. part.HeaderLow) a.rest end (λ b. b ≡ 0xA4)) (c : Onward (λ b. part.HeaderHigh b) b.rest end any) → InGrammar bytes
 frame_4 bytes end f a b c =
-    frame_5 bytes end f a b c (onward (place.HeaderHigh c.byte) (λ b. place.Head (room_for ((c.byte + 256 * b) % 2048)) ((c.byte + 256 * b) % 2048) 0) c.rest end (λ b. IsHeader (c.byte + 256 * b)) c.tail_are refl (λ n m _ s. header_inverse (c.byte + 256 * n) m s) c.goes)
+    frame_5 bytes end f a b c (onward (part.HeaderHigh c.byte) (λ b. part.Head (room_for ((c.byte + 256 * b) % 2048)) ((c.byte + 256 * b) % 2048) 0) c.rest end (λ b. IsHeader (c.byte + 256 * b)) c.tail_are refl (λ n m _ s. header_inverse (c.byte + 256 * n) m s) c.goes)
 
-frame_3 : (bytes : List ℕ) (end : ℕ) (f : Fronted 0 bytes end) (a : Onward (λ _. place.Front 13) f.rest end (λ b. b ≡ 0x88)) (b : Onward (λ _. place.HeaderLow) a.rest end (λ b. b ≡ 0xA4)) → InGrammar bytes
+frame_3 : (bytes : List ℕ) (end : ℕ) (f : Fronted 0 bytes end) (a : Onward (λ _. part.Front 13) f.rest end (λ b. b ≡ 0x88)) (b : Onward (λ _. part.HeaderLow) a.rest end (λ b. b ≡ 0xA4)) → InGrammar bytes
 frame_3 bytes end f a b =
-    frame_4 bytes end f a b (onward (place.HeaderLow) (λ b. place.HeaderHigh b) b.rest end any b.tail_are refl (λ n m _ s. (tt, (cc))) b.goes)
+    frame_4 bytes end f a b (onward (part.HeaderLow) (λ b. part.HeaderHigh b) b.rest end any b.tail_are refl (λ n m _ s. (tt, (cc))) b.goes)
 
-frame_2 : (bytes : List ℕ) (end : ℕ) (f : Fronted 0 bytes end) (a : Onward (λ _. place.Front 13) f.rest end (λ b. b ≡ 0x88)) → InGrammar bytes
+frame_2 : (bytes : List ℕ) (end : ℕ) (f : Fronted 0 bytes end) (a : Onward (λ _. part.Front 13) f.rest end (λ b. b ≡ 0x88)) → InGrammar bytes
 frame_2 bytes end f a =
-    frame_3 bytes end f a (onward (place.Front 13) (λ _. place.HeaderLow) a.rest end (λ b. b ≡ 0xA4) a.tail_are refl (λ n m _ s. type_second n m s) a.goes)
+    frame_3 bytes end f a (onward (part.Front 13) (λ _. part.HeaderLow) a.rest end (λ b. b ≡ 0xA4) a.tail_are refl (λ n m _ s. type_second n m s) a.goes)
 
 frame_1 : (bytes : List ℕ) (end : ℕ) (f : Fronted 0 bytes end) → InGrammar bytes
 frame_1 bytes end f =
-    frame_2 bytes end f (onward (place.Front 12) (λ _. place.Front 13) f.rest end (λ b. b ≡ 0x88) f.tail_are refl (λ n m _ s. type_first n m s) f.goes)
+    frame_2 bytes end f (onward (part.Front 12) (λ _. part.Front 13) f.rest end (λ b. b ≡ 0x88) f.tail_are refl (λ n m _ s. type_first n m s) f.goes)
 
-pub frame_inverse : (bytes : List ℕ) (end : ℕ) → AreBytes bytes → Reaches (place.Front 0) bytes (place.Padding end) → InGrammar bytes
+pub frame_inverse : (bytes : List ℕ) (end : ℕ) → AreBytes bytes → Reaches (part.Front 0) bytes (part.Padding end) → InGrammar bytes
 frame_inverse bytes end are h = frame_1 bytes end (front_inverse 12 0 bytes end (omega arith) are h)

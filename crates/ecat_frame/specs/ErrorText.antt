@@ -4,11 +4,11 @@ use Rattle.ecat_frame.specs.declared.error.FrameError.{FrameError}
 use Rattle.ecat_frame.specs.declared.error.FrameError.TheVariants.{Short, EtherType, FrameType, Length, Command, More, TooLong}
 
 -- the reason, and the number in decimal
-abbrev pub text_of : FrameError → List ℕ
-text_of (Short n) = codes "short at " ++ decimal n
-text_of (EtherType n) = codes "ethertype at " ++ decimal n
-text_of (FrameType n) = codes "type at " ++ decimal n
-text_of (Length n) = codes "length at " ++ decimal n
-text_of (Command n) = codes "command at " ++ decimal n
-text_of (More n) = codes "more at " ++ decimal n
-text_of (TooLong n) = codes "too long at " ++ decimal n
+abbrev pub line_of_error : FrameError → List ℕ
+line_of_error (Short n) = codes "short at " ++ decimal n
+line_of_error (EtherType n) = codes "ethertype at " ++ decimal n
+line_of_error (FrameType n) = codes "type at " ++ decimal n
+line_of_error (Length n) = codes "length at " ++ decimal n
+line_of_error (Command n) = codes "command at " ++ decimal n
+line_of_error (More n) = codes "more at " ++ decimal n
+line_of_error (TooLong n) = codes "too long at " ++ decimal n

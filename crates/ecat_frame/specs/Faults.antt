@@ -1,7 +1,7 @@
 -- Which error says what of bytes that are no frame.
 use Rattle.std.specs.Prelude.{◌≡◌, ℕ, ◌+◌, ◌<◌, List, length, take, slice_index, Err}
 use Rattle.ecat_frame.specs.FrameGrammar.{InGrammar, IsViable}
-use Rattle.ecat_frame.specs.FramePlace.{Place, Front}
+use Rattle.ecat_frame.specs.FramePart.{Part, Front}
 use Rattle.ecat_frame.specs.Refusals.{Reason, Reaches, step}
 use Rattle.ecat_frame.specs.Refusals as reason
 use Rattle.ecat_frame.specs.declared.error.FrameError.{FrameError}
@@ -19,7 +19,7 @@ pub record IsRefused (why : Reason) (n : ℕ) (bytes : List ℕ) : Type 0 where
   pub inside : n < length bytes
   pub viable : IsViable (take n bytes)
   pub ends : IsViable (take (n + 1) bytes) → ⊥
-  pub at : Place
+  pub at : Part
   pub reached : Reaches (Front 0) (take n bytes) at
   pub refused : step at (slice_index bytes n) ≡ Err why
 

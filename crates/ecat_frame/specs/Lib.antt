@@ -7,7 +7,7 @@ pub mod Difference
 pub mod InsideBuilder
 pub mod InsideFrame
 pub mod InsideDifference
-pub mod FramePlace
+pub mod FramePart
 pub mod Refusals
 pub mod Faults
 pub mod ErrorText

@@ -24,9 +24,9 @@ pub enum FrameError {
 
 impl fmt::Display for FrameError {
     ghost use Rattle.std.specs.Prelude.{Some};
-    ghost use Rattle.ecat_frame.specs.ErrorText.{text_of};
+    ghost use Rattle.ecat_frame.specs.ErrorText.{line_of_error};
 
-    ghost output = { λ e. Some (text_of e) };
+    ghost output = { λ e. Some (line_of_error e) };
 
     fn fmt<W: fmt::Write>(&self, f: &mut fmt::Formatter<W>) -> fmt::Result {
         match self {

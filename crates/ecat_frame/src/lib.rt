@@ -22,7 +22,7 @@ mod error;
 mod frame;
 pub mod laws;
 mod layout;
-mod place;
+mod part;
 mod scan;
 
 pub use builder::{Builder, Full};

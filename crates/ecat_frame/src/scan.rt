@@ -1,10 +1,10 @@
 ghost use Rattle.std.specs.Prelude.{IfErr, IfOk, OnOk};
 ghost use Rattle.ecat_frame.specs.Faults.{IsFault};
 ghost use Rattle.ecat_frame.specs.FrameGrammar.{InGrammar};
-ghost use Rattle.ecat_frame.specs.InsideScan.{LeadsTo, StopsAt, place_of};
+ghost use Rattle.ecat_frame.specs.InsideScan.{LeadsTo, StopsAt, part_of};
 
 use crate::error::FrameError;
-use crate::place::Place;
+use crate::part::Part;
 
 /// Whether the bytes are a frame.
 pub(crate) fn check(bytes: &[u8]) -> Result<(), FrameError>
@@ -12,17 +12,17 @@ pub(crate) fn check(bytes: &[u8]) -> Result<(), FrameError>
     ensures fault { IfErr result (IsFault bytes.now) }
 {
     match scan(bytes)? {
-        Place::Padding { .. } => Ok(()),
+        Part::Padding { .. } => Ok(()),
         _ => Err(FrameError::Short(bytes.len())),
     }
 }
 
 // Where the bytes lead, or the first that is refused.
-fn scan(bytes: &[u8]) -> Result<Place, FrameError>
-    ensures leads { IfOk result (λ p. LeadsTo bytes.now (place_of p)) }
+fn scan(bytes: &[u8]) -> Result<Part, FrameError>
+    ensures leads { IfOk result (λ p. LeadsTo bytes.now (part_of p)) }
     ensures stops { IfErr result (StopsAt bytes.now) }
 {
-    let mut place = Place::Front { at: 0 };
+    let mut place = Part::Front { at: 0 };
     for (at, byte) in bytes.iter().enumerate() {
         place = place.step(at, *byte)?;
     }

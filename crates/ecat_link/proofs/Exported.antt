@@ -6,3 +6,5 @@ pub use Rattle.ecat_link.proofs.Serving.{runs_then, serves_none, serves_one, ser
 pub use Rattle.ecat_link.proofs.Driving.{run_is, driven}
 -- Losses of exchanges, and of calls.
 pub use Rattle.ecat_link.proofs.Losses.{lost_then}
+-- Tries of a frame: what a script sends, where it wants the frame and wants it again after each of the first two losses.
+pub use Rattle.ecat_link.proofs.Trying.{sends_tries, serves_tries}

@@ -3,3 +3,4 @@ pub mod Serves
 pub mod Drive
 pub mod ScriptState
 pub mod RoseBy
+pub mod Tries

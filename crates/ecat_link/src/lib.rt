@@ -14,9 +14,11 @@
 pub mod laws;
 mod link;
 mod script_link;
+mod tries;
 
 pub use link::{Link, Lost};
 pub use script_link::{ScriptLink, ScriptReply};
+pub use tries::try_frame;
 
 #[cfg(test)]
 mod tests;

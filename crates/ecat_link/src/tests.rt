@@ -5,7 +5,7 @@ mod recorder;
 mod repeat;
 mod silent;
 
-use crate::{ScriptLink, ScriptReply, laws};
+use crate::{ScriptLink, ScriptReply, laws, try_frame};
 use ecat_frame::{Builder, Command, Frame, Head};
 use recorder::Recorder;
 use repeat::repeat;
@@ -40,6 +40,23 @@ fn callers_are_generic_in_the_link(rt: HostRuntime) -> Result<(), Fail> {
     let mut silent = SilentLink { lost: u64::MAX - 1 };
     assert_eq!(rt; repeat(&mut silent, 0, &question(), 3), 3);
     assert_eq!(rt; silent.lost, u64::MAX);
+    Ok(())
+}
+
+#[test]
+fn tries_are_three(rt: HostRuntime) -> Result<(), Fail> {
+    let replies = vec![in rt.alloc();
+        ScriptReply::Lose,
+        ScriptReply::Lose,
+        ScriptReply::Echo,
+        ScriptReply::Lose,
+    ]?;
+    let mut link = ScriptLink::new(replies);
+    assert!(rt; try_frame(&mut link, 250_000, &question()).is_some());
+    assert_eq!(rt; link.lost(), 2);
+    // three more find no frame that comes back
+    assert!(rt; try_frame(&mut link, 250_000, &question()).is_none());
+    assert_eq!(rt; link.lost(), 5);
     Ok(())
 }
 

@@ -7,7 +7,7 @@ use Rattle.cable_tree.specs.FrameOrder.{order}
 use Rattle.cable_tree.specs.Positions.{position_of}
 use Rattle.cable_tree.specs.Row.{Row}
 use Rattle.cable_tree.proofs.Exported.{order_whole, position_at}
-use Rattle.segment_bounds.specs.Bounds.{reference_of}
+use Rattle.segment_bounds.specs.Bounds.{reference_row_of}
 use Rattle.segment_file.specs.Legal.{IsClock, IsLegal}
 use Rattle.segment_file.specs.Seen.{row_seen}
 use Rattle.segment_file.specs.Segment.{SegmentValue, clock_at, no_row, reference_row, row_at, tree_row, tree_rows}
@@ -29,7 +29,7 @@ pub reference_at : (s : SegmentValue) (p q : ℕ) → IsLegal s → reference_ro
     → p ≡ reference_position s
 unfolding reference_position
 reference_at s p q legal e low at =
-    let is : row_at s p ≡ reference_of s = at ∙ sym (ap (λ (o : Option ℕ). unwrap_or o 0) e) in
+    let is : row_at s p ≡ reference_row_of s = at ∙ sym (ap (λ (o : Option ℕ). unwrap_or o 0) e) in
     sym (position_at (tree_rows s.rows) legal.tree.tree legal.tree.slaves p low) ∙ ap (position_of (tree_rows s.rows)) is
 
 -- there is an entry for each slave

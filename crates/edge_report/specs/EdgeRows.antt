@@ -22,7 +22,9 @@ row_fields index id signal time shift = decimal index ∷ id ∷ signal ∷ deci
 
 -- the row of an edge: its index, the slave's id, the signal, its true time (fs) and its total shift (ns)
 unfoldable pub edge_row : SegmentValue → SlaveEdge → List ℕ
-edge_row s e = row_text default_writer (row_fields e.edge.index (slave_at s e.position).id (signal_text e.edge.signal) e.edge.time_fs (total_shift s e))
+edge_row s e =
+    row_text default_writer (row_fields e.edge.index (slave_at s e.position).id (signal_text e.edge.signal) e.edge.time_fs
+    (total_shift s e))
 
 -- an edge is the one of this index of this signal
 abbrev pub is_at : ℕ → ℕ → Signal → SlaveEdge → Bool

@@ -5,7 +5,7 @@ use Rattle.std.specs.Fmt.{digits, padded_integral, format_spec}
 use Rattle.std.specs.List.{flat_map, range_with_len}
 use Rattle.esc_regs.specs.declared.clock_kind.ClockKind.{ClockKind}
 use Rattle.esc_regs.specs.declared.clock_kind.ClockKind.TheVariants as kind
-use Rattle.segment_bounds.specs.Bounds.{delay_at, delay_bound_at}
+use Rattle.segment_bounds.specs.Bounds.{wire_delay_at, delay_bound_at}
 use Rattle.segment_file.specs.Segment.{SegmentValue, row_at}
 use Rattle.edge_report.specs.Slaves.{slave_at, reference_position}
 
@@ -36,7 +36,7 @@ numbers_text delay wire bound = decimal delay ++ (codes " " ++ (decimal wire ++ 
 -- these three of the clock at a row, or three dashes where no delay is measured
 unfoldable pub measured_text : SegmentValue → ℕ → Option ℕ → List ℕ
 measured_text s row None = codes "- - -" ++ 10 ∷ []
-measured_text s row (Some delay) = numbers_text delay (delay_at s row) (delay_bound_at s row)
+measured_text s row (Some delay) = numbers_text delay (wire_delay_at s row) (delay_bound_at s row)
 
 -- the line of the slave at a position
 unfoldable pub slave_line : SegmentValue → ℕ → Option ℕ → List ℕ

@@ -50,10 +50,8 @@ fn in_order(segment: &Segment, edges: Vec<SlaveEdge>) -> Result<Vec<SlaveEdge>, 
     ensures each { IfOk result (λ v. All (IsEdge segment.now) v.items) }
 {
     let mut ordered = edges;
-    match ordered.sort_by_key(|edge| order_key(edge)) {
-        Ok(()) => Ok(ordered),
-        Err(_) => Err(NoMemory),
-    }
+    ordered.sort_by_key(|edge| order_key(edge))?;
+    Ok(ordered)
 }
 
 fn put_fields<W: Write + Drop>(writer: &mut Writer<W>, fields: &[&[u8]]) -> Result<(), NoMemory>
@@ -118,7 +116,8 @@ fn put_edge<W: Write + Drop>(
     edge: &SlaveEdge,
 ) -> Result<(), NoMemory>
     requires { edge.now.position < length segment.now.rows }
-    ensures { OnOk result ((bytes : List ℕ) → Wrote W.contents writer.old bytes → Wrote W.contents writer.new (bytes ++ edge_row segment.now edge.now)) }
+    ensures { OnOk result ((bytes : List ℕ) → Wrote W.contents writer.old bytes
+        → Wrote W.contents writer.new (bytes ++ edge_row segment.now edge.now)) }
 {
     let shift_ns = total_shift(segment, edge);
     let row = slave(segment, edge.position);
@@ -137,10 +136,8 @@ fn with_room(text: Vec<u8>, rows: usize) -> Result<Vec<u8>, NoMemory>
     ensures { IfOk result (λ v. v.items ≡ text.items) }
 {
     let mut text = text;
-    match text.reserve_exact(rows.saturating_mul(ROW_ROOM)) {
-        Ok(()) => Ok(text),
-        Err(_) => Err(NoMemory),
-    }
+    text.reserve_exact(rows.saturating_mul(ROW_ROOM))?;
+    Ok(text)
 }
 
 // A text and behind it the rows of these edges, in this order.
@@ -166,9 +163,7 @@ pub fn edges_csv(alloc: Global, segment: &Segment, edges: &[SlaveEdge]) -> Resul
     requires { AreEdges segment.now edges.now }
     ensures { IfOk result (λ text. text.items ≡ edge_rows segment.now edges.now) }
 {
-    let Ok(list) = Vec::from_slice(alloc, edges) else {
-        return Err(NoMemory);
-    };
+    let list = Vec::from_slice(alloc, edges)?;
     edges_csv_behind(Vec::new(alloc), segment, list)
 }
 

@@ -42,9 +42,7 @@ pub fn delay_table(
     requires { AreDelays segment.now delays.now }
     ensures { IfOk result (λ text. text.items ≡ delay_table_text segment.now delays.now sent lost) }
 {
-    let Ok(text) = delay_text(alloc, segment, delays, sent, lost) else {
-        return Err(NoMemory);
-    };
+    let text = delay_text(alloc, segment, delays, sent, lost)?;
     Ok(text.into_bytes())
 }
 
@@ -128,7 +126,7 @@ pub fn run_summary(
     requires edges { AreEdges segment.now edges.now }
     ensures { IfOk result (λ text. text.items ≡ run_summary_text segment.now delays.now start sent lost edges.now slave_lines) }
 {
-    let Ok(text) = run_text(
+    let text = run_text(
         alloc,
         segment,
         delays,
@@ -137,8 +135,6 @@ pub fn run_summary(
         lost,
         edges,
         slave_lines,
-    ) else {
-        return Err(NoMemory);
-    };
+    )?;
     Ok(text.into_bytes())
 }

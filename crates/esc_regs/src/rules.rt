@@ -173,7 +173,8 @@ pub(crate) fn overlay(under: &mut [u8], at: usize, over: &[u8], addr: usize)
     requires under { at + length under.old ≤ 4096 }
     requires over { addr + length over.now ≤ 4096 }
     ensures { (k : ℕ) → k < length under.old
-        → slice_index under.new k ≡ (if is_within (at + k) addr (length over.now) then slice_index over.now (at + k - addr) else slice_index under.old k) }
+        → slice_index under.new k ≡ (if is_within (at + k) addr (length over.now) then slice_index over.now
+        (at + k - addr) else slice_index under.old k) }
 {
     let low = at.max(addr);
     let high = (at + under.len()).min(addr + over.len());

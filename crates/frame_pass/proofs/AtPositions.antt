@@ -1,8 +1,7 @@
 -- What a step does to the slave at a position.
-use Rattle.std.proofs.Common.{◌≡◌, ℕ, zero, suc, ◌+◌, ◌<◌, ◌≤◌, List, [], ◌∷◌, length, map, Option, Some, None, Bool, true, false, nat_lt, refl, ap, ◌∙◌, arith}
-use Rattle.std.specs.Prelude.{slice_get, option_map, IfSome}
+use Rattle.std.proofs.Common.{◌≡◌, ℕ, zero, suc, ◌+◌, ◌<◌, ◌≤◌, List, [], ◌∷◌, Option, Some, None, false, refl, ap, ◌∙◌}
+use Rattle.std.specs.Prelude.{slice_get, option_map}
 use Rattle.std.specs.List.{AllByRecursion}
-use Rattle.std.proofs.lemmas.Bool.Decides.{nat_tests}
 use Rattle.std.proofs.lemmas.Option.{slice_get-map}
 use Rattle.ecat_frame.specs.FrameGrammar.{DatagramValue, FrameValue}
 use Rattle.loss_list.specs.Losses.{loss_at}
@@ -14,7 +13,7 @@ use Rattle.frame_pass.specs.FramePass.{slave_behind, slave_passed, slaves_passed
 use Rattle.frame_pass.specs.SegmentState.{SegmentState, segment_step, leaves_at, carried, numbered, leaving, number_of, phase_of, finished, expected_at, expecting, changed_at}
 use Rattle.frame_pass.specs.Reach.{reach_of, reached_by}
 use Rattle.frame_pass.specs.Invariants.{IsSound, IsSoundSegment}
-use Rattle.frame_pass.proofs.Schedule.{is_below, next_number, same_losses}
+use Rattle.frame_pass.proofs.Schedule.{is_below}
 use Rattle.frame_pass.proofs.Unreached.{reached, stays}
 
 same_slaves : (phase : Phase) (s : SegmentState) (at : ℕ) → (numbered phase (leaving at s)).slaves ≡ s.slaves

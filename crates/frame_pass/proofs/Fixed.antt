@@ -1,5 +1,5 @@
 -- What never changes of a slave, and of a segment.
-use Rattle.std.proofs.Common.{◌≡◌, ℕ, zero, suc, ◌+◌, ◌≤◌, List, [], ◌∷◌, length, map, Option, Some, None, Bool, true, false, nat_le, nat_lt, refl, sym, ap, ap₂, ◌∙◌}
+use Rattle.std.proofs.Common.{◌≡◌, ℕ, zero, suc, List, [], ◌∷◌, map, Option, Some, None, Bool, true, false, nat_le, nat_lt, refl, sym, ap, ap₂, ◌∙◌}
 use Rattle.std.specs.Prelude.{⊤, IfSome, option_map}
 use Rattle.ecat_frame.specs.FrameGrammar.{DatagramValue, FrameValue}
 use Rattle.osc_clock.specs.Ticks.{Oscillator}
@@ -11,7 +11,7 @@ use Rattle.sync_units.specs.declared.edge.Edge.{Edge}
 use Rattle.sync_units.specs.declared.edge.Signal.{Signal}
 use Rattle.sync_units.specs.declared.edge.Signal.TheVariants.{Sync0, Sync1}
 use Rattle.sync_units.specs.Interval.{edges_to}
-use Rattle.sync_units.specs.KeptEdges.{Kept, put, put_all, with_edge, edges_with}
+use Rattle.sync_units.specs.KeptEdges.{Kept, put, put_all}
 use Rattle.loss_list.specs.Losses.{loss_at}
 use Rattle.loss_list.specs.declared.loss_row.Phase.{Phase}
 use Rattle.loss_list.specs.declared.loss_row.Phase.TheVariants.{Commission, Drift}
@@ -22,7 +22,7 @@ use Rattle.frame_pass.specs.WriteEffects.{latched, compared, reset_by, activated
 use Rattle.frame_pass.specs.FramePass.{port_latched, slave_passed, slaves_passed, datagrams_passed}
 use Rattle.frame_pass.specs.SegmentState.{SegmentState, segment_step, leaves_at, carried, numbered, leaving, number_of, phase_of, finished, expected_at, expecting, changed_at}
 use Rattle.frame_pass.specs.Invariants.{IsSameSegment}
-use Rattle.frame_pass.proofs.Keeping.{Keeps, IsVisited, kept_passed}
+use Rattle.frame_pass.proofs.Keeping.{Keeps, kept_passed}
 use Rattle.frame_pass.proofs.History.{kind_of_stamped}
 
 put_keeps : (e : Edge) (l : Kept) → (put e l).keep ≡ l.keep

@@ -1,5 +1,5 @@
 -- The told clock is that of its history.
-use Rattle.std.proofs.Common.{◌≡◌, ℕ, ◌+◌, ◌%◌, ◌^◌, ◌<◌, ◌≤◌, List, [], ◌∷◌, ◌++◌, length, Option, Some, None, Bool, true, false, nat_le, refl, sym, ap, subst, ◌∙◌, arith, append_assoc, inl, inr}
+use Rattle.std.proofs.Common.{◌≡◌, ℕ, ◌+◌, ◌^◌, ◌<◌, ◌≤◌, List, [], ◌∷◌, ◌++◌, length, Option, Some, None, Bool, true, false, nat_le, refl, sym, ap, subst, ◌∙◌, arith, append_assoc}
 use Rattle.std.specs.Prelude.{IfSome}
 use Rattle.std.specs.List.{All}
 use Rattle.std.proofs.lemmas.Bool.Decides.{nat_tests}
@@ -15,7 +15,7 @@ use Rattle.esc_regs.specs.RegisterWrite.{written, told}
 use Rattle.esc_regs.proofs.Exported.{written_kind, rate_bounds}
 use Rattle.esc_regs.specs.RegisterAccess.{is_refused, rate_by}
 use Rattle.esc_regs.specs.declared.clock_kind.ClockKind.{ClockKind}
-use Rattle.frame_pass.specs.SlaveState.{Timing, Measuring, Slave, width, width_of, offset, on_measuring, on_measuring_of}
+use Rattle.frame_pass.specs.SlaveState.{Timing, Measuring, Slave, width, width_of, offset, on_measuring_of}
 use Rattle.latch_unit.specs.Stamp.{stamp_by}
 use Rattle.frame_pass.specs.Advancing.{advanced_to, measuring_at, ticked_to, stamped}
 use Rattle.frame_pass.specs.WriteEffects.{latched, compared, reset_by, activated, affected, wrote, difference, arms}

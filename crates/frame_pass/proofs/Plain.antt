@@ -1,5 +1,5 @@
 -- What changes registers, and what does not.
-use Rattle.std.proofs.Common.{◌≡◌, ℕ, ◌+◌, ◌%◌, ◌^◌, ◌≤◌, ◌⊎◌, List, [], ◌∷◌, length, Option, Some, None, Bool, true, false, nat_le, refl, ◌∙◌, arith, inl, inr}
+use Rattle.std.proofs.Common.{◌≡◌, ℕ, ◌+◌, ◌%◌, ◌^◌, ◌≤◌, List, [], ◌∷◌, length, Option, Some, None, Bool, true, false, nat_le, refl, ◌∙◌, arith, inl, inr}
 use Rattle.std.specs.Prelude.{IfSome, if◌then◌else◌}
 use Rattle.ecat_frame.specs.FrameGrammar.{DatagramValue}
 use Rattle.esc_regs.specs.RegisterBytes.{AreApart}
@@ -7,7 +7,7 @@ use Rattle.esc_regs.specs.RegisterFile.{Registers}
 use Rattle.esc_regs.specs.RegisterWrite.{written, told}
 use Rattle.esc_regs.specs.declared.answers.Written.{Written}
 use Rattle.esc_regs.proofs.Exported.{apart, untouched}
-use Rattle.frame_pass.specs.SlaveState.{Timing, Measuring, Slave, Visits, holds, holding, width_of, offset, on_measuring, on_measuring_of}
+use Rattle.frame_pass.specs.SlaveState.{Timing, Measuring, Slave, holds, holding, width_of, offset, on_measuring_of}
 use Rattle.latch_unit.specs.Stamp.{stamp_by}
 use Rattle.frame_pass.specs.Advancing.{advanced_to, measuring_at, ticked_to, stamped}
 use Rattle.frame_pass.specs.WriteEffects.{latched, compared, reset_by, activated, affected, wrote, difference, difference_shown, arms}
@@ -16,9 +16,9 @@ use Rattle.frame_pass.specs.DatagramAtSlave.{doing, slave_after}
 use Rattle.frame_pass.specs.FramePass.{slave_behind, port_latched, port_taken, ports_taken, comes_by, at_arrival, when_latching, are_latching, slave_passed}
 use Rattle.frame_pass.specs.Invariants.{IsSound}
 use Rattle.frame_pass.specs.PlainRegisters.{IsPlain, AreLeft}
-use Rattle.frame_pass.proofs.Sizes.{HasSize, size_written, size_holding, size_stamped}
-use Rattle.frame_pass.proofs.Keeping.{Keeps, IsVisited, kept_after, kept_behind, kept_port}
-use Rattle.frame_pass.proofs.Sound.{IsFit, fit_latched, fit_compared, fit_reset, sound_at, keeps_sound, visited}
+use Rattle.frame_pass.proofs.Sizes.{HasSize, size_written, size_holding}
+use Rattle.frame_pass.proofs.Keeping.{kept_after, kept_behind, kept_port}
+use Rattle.frame_pass.proofs.Sound.{fit_latched, fit_compared, sound_at, keeps_sound, visited}
 
 -- a part of what is apart
 inner : (a m b k at n : ℕ) → a ≤ b → b + k ≤ a + m → AreApart a m at n → AreApart b k at n

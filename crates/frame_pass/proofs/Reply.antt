@@ -1,6 +1,6 @@
 -- What slaves leave of a frame.
 use Rattle.std.proofs.Common.{◌≡◌, ℕ, zero, suc, ◌+◌, ◌≤◌, List, [], ◌∷◌, length, map, replicate, Option, Some, None, Bool, true, false, nat_lt, ◌==◌, refl, ap, ap₂, ◌∙◌, arith}
-use Rattle.std.specs.Prelude.{IfSome, option_map, slice_range, if◌then◌else◌}
+use Rattle.std.specs.Prelude.{IfSome, slice_range}
 use Rattle.std.specs.List.{AllByRecursion}
 use Rattle.std.proofs.lemmas.Bool.Decides.{nat_tests}
 use Rattle.ecat_frame.specs.FrameGrammar.{DatagramValue, FrameValue, spelling}
@@ -10,7 +10,6 @@ use Rattle.esc_regs.specs.ShownRegisters.{shown}
 use Rattle.esc_regs.proofs.Exported.{range_length, not_past}
 use Rattle.loss_list.specs.Losses.{loss_at}
 use Rattle.loss_list.specs.declared.loss_row.Phase.{Phase}
-use Rattle.loss_list.specs.declared.loss_row.Phase.TheVariants.{Commission, Drift}
 use Rattle.frame_pass.specs.SlaveState.{Slave}
 use Rattle.frame_pass.specs.LiveRegisters.{live, read_of}
 use Rattle.frame_pass.specs.DatagramTable.{Doing, reads, merges}
@@ -18,7 +17,7 @@ use Rattle.frame_pass.specs.DatagramAtSlave.{merged, data_with, payload_after, d
 use Rattle.frame_pass.specs.FramePass.{datagrams_after, datagrams_passed, datagrams_behind, at_arrival}
 use Rattle.frame_pass.specs.Replies.{unanswered_datagram, unanswered}
 use Rattle.frame_pass.specs.Invariants.{IsSound, IsSoundSegment}
-use Rattle.frame_pass.specs.SegmentState.{SegmentState, segment_step, carried, carried_of, numbered, leaving, leaves_at, phase_of, number_of}
+use Rattle.frame_pass.specs.SegmentState.{SegmentState, segment_step, carried, numbered, leaving, leaves_at, phase_of, number_of}
 use Rattle.frame_pass.proofs.Sizes.{HasSize, size_shown}
 use Rattle.frame_pass.proofs.Keeping.{kept_after}
 use Rattle.frame_pass.proofs.Sound.{keeps_sound, sound_at, timely_numbered, timely_leaving, returns_by}

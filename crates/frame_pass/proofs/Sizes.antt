@@ -1,10 +1,9 @@
 -- How many bytes registers have.
-use Rattle.std.proofs.Common.{◌≡◌, ℕ, ◌+◌, ◌≤◌, List, length, Option, Some, None, Bool, true, false, slice_range, refl, ap, ◌∙◌, arith}
+use Rattle.std.proofs.Common.{◌≡◌, ℕ, ◌+◌, ◌≤◌, List, length, Option, Some, None, Bool, true, false, refl, ◌∙◌, arith}
 use Rattle.std.proofs.lemmas.List.FromFn.{length-map-range_with_len}
 use Rattle.std.specs.Option.{is_some}
 use Rattle.esc_regs.specs.RegisterAccess.{is_refused, rate_by, byte_after}
 use Rattle.esc_regs.specs.RegisterFile.{Registers}
-use Rattle.esc_regs.specs.RegisterTable.{held}
 use Rattle.esc_regs.specs.RegisterWrite.{written, stored_bytes}
 use Rattle.esc_regs.specs.ShownRegisters.{shown, showing}
 use Rattle.esc_regs.specs.declared.live.Live.{Live}

@@ -1,5 +1,5 @@
 -- The told unit and its edges are those of its calls.
-use Rattle.std.proofs.Common.{◌≡◌, ℕ, ◌+◌, ◌≤◌, List, [], ◌∷◌, ◌++◌, Option, Some, None, Bool, true, false, ◌&&◌, ◌||◌, nat_le, refl, sym, ap, ap₂, ◌∙◌, arith, append_assoc}
+use Rattle.std.proofs.Common.{◌≡◌, ℕ, ◌+◌, ◌≤◌, List, [], ◌∷◌, ◌++◌, Option, Some, None, Bool, true, false, ◌||◌, nat_le, refl, sym, ap, ap₂, ◌∙◌, arith, append_assoc}
 use Rattle.std.specs.Prelude.{IfSome}
 use Rattle.std.specs.Option.{is_some}
 use Rattle.std.proofs.lemmas.Bool.Decides.{nat_tests}
@@ -14,13 +14,13 @@ use Rattle.esc_regs.specs.declared.answers.Written.{Written}
 use Rattle.esc_regs.specs.RegisterFile.{Registers}
 use Rattle.esc_regs.specs.RegisterWrite.{written, told}
 use Rattle.esc_regs.proofs.Exported.{written_kind}
-use Rattle.frame_pass.specs.SlaveState.{Timing, Measuring, Slave, width, width_of, offset, on_measuring, on_measuring_of}
+use Rattle.frame_pass.specs.SlaveState.{Timing, Measuring, Slave, width, width_of, offset, on_measuring_of}
 use Rattle.latch_unit.specs.Stamp.{stamp_by}
 use Rattle.frame_pass.specs.Advancing.{advanced_to, measuring_at, ticked_to}
 use Rattle.frame_pass.specs.WriteEffects.{latched, compared, reset_by, activated, affected, wrote}
 use Rattle.frame_pass.specs.DatagramTable.{writes}
 use Rattle.frame_pass.specs.DatagramAtSlave.{doing, slave_after}
-use Rattle.frame_pass.specs.FramePass.{slave_behind, port_latched, port_taken, ports_taken, comes_by, at_arrival, when_latching, are_latching, slave_passed}
+use Rattle.frame_pass.specs.FramePass.{slave_behind, port_latched, port_taken, ports_taken, comes_by, at_arrival, are_latching, slave_passed}
 use Rattle.frame_pass.specs.UnitHistory.{calls_until, calls_on, calls_to, calls_of_port, calls_of_ports, calls_passed, is_activating, are_activating, IsRun, HasRun}
 use Rattle.frame_pass.proofs.History.{kind_of_stamped}
 

@@ -1,5 +1,5 @@
 -- Slaves that a frame does not reach, and those that it does.
-use Rattle.std.proofs.Common.{◌≡◌, ℕ, zero, suc, ◌+◌, ◌<◌, List, [], ◌∷◌, length, Option, Some, drop, refl, ap, arith, ◌≤◌}
+use Rattle.std.proofs.Common.{◌≡◌, ℕ, zero, suc, ◌<◌, List, [], ◌∷◌, length, Option, Some, drop, refl, ap, arith, ◌≤◌}
 use Rattle.std.specs.Prelude.{slice_get}
 use Rattle.ecat_frame.specs.FrameGrammar.{DatagramValue}
 use Rattle.frame_pass.specs.SlaveState.{Slave}

@@ -1,5 +1,5 @@
 -- The told state of a slave.
-use Rattle.std.specs.Prelude.{ℕ, ◌%◌, ◌^◌, List, Option, Some, None, option_map, if◌then◌else◌}
+use Rattle.std.specs.Prelude.{ℕ, ◌%◌, ◌^◌, Option, Some, None, option_map, if◌then◌else◌}
 use Rattle.esc_regs.specs.declared.clock_kind.ClockKind.{ClockKind}
 use Rattle.esc_regs.specs.RegisterBytes.{number_at, with_number}
 use Rattle.esc_regs.specs.RegisterFile.{Registers}

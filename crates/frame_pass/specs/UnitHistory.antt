@@ -10,7 +10,6 @@ use Rattle.sync_units.specs.Calls.{Call, AreInTurn, end_of, unit_after_calls, li
 use Rattle.sync_units.specs.KeptEdges.{Kept}
 use Rattle.sync_units.specs.SyncRule.{Armed}
 use Rattle.frame_pass.specs.SlaveState.{Timing, Measuring, Slave, width, offset}
-use Rattle.frame_pass.specs.Advancing.{advanced_to}
 use Rattle.frame_pass.specs.DatagramTable.{writes}
 use Rattle.frame_pass.specs.DatagramAtSlave.{doing, slave_after}
 use Rattle.frame_pass.specs.FramePass.{comes_by, port_taken, slave_behind, are_latching, at_arrival}
@@ -53,7 +52,8 @@ are_activating s [] = false
 are_activating s (d ∷ ds) = is_activating s d || are_activating (slave_after s d) ds
 
 -- The slave's unit and edges are what these calls leave of a unit and a list, from an instant on.
-pub record IsRun (w : ℕ) (o : Oscillator) (start : ℕ) (unit : Option Armed) (edges : Kept) (calls : List Call) (m : Measuring) : Type 0 where
+pub record IsRun (w : ℕ) (o : Oscillator) (start : ℕ) (unit : Option Armed) (edges : Kept) (calls : List Call)
+    (m : Measuring) : Type 0 where
   pub width : width m.registers.kind ≡ w
   pub oscillator : m.timing.clock.osc ≡ o
   pub in_turn : AreInTurn o start calls
@@ -62,4 +62,5 @@ pub record IsRun (w : ℕ) (o : Oscillator) (start : ℕ) (unit : Option Armed) 
   pub edges_are : m.timing.edges ≡ list_after_calls w calls unit edges
 
 abbrev pub HasRun : ℕ → Oscillator → ℕ → Option Armed → Kept → List Call → Slave → Type 0
-HasRun w o start unit edges calls s = IfSome s.timing (λ m. IsRun w o start unit edges calls (record { registers = s.registers; timing = m }))
+HasRun w o start unit edges calls s =
+    IfSome s.timing (λ m. IsRun w o start unit edges calls (record { registers = s.registers; timing = m }))

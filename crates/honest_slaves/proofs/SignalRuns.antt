@@ -33,7 +33,7 @@ use Rattle.segment_start.specs.Start.{slave_of, started_segment, timing_by}
 use Rattle.segment_start.proofs.Exported.{starts_timely}
 use Rattle.run_of_file.specs.MasterOfFile.{master_of, plan_of}
 use Rattle.run_of_file.specs.RunOfFile.{RunEnd, armed, commissioned, end_of_run, frames_given, ran, rounded_off, run_of, settled}
-use Rattle.run_of_file.proofs.Exported.{armed_on, commissioned_on, ran_on, settled_on, IsFromStart, armed_from, commissioned_from, ran_from, settled_from, as_many_kinds, few_rows, some_rows}
+use Rattle.run_of_file.proofs.Exported.{armed_on, commissioned_on, ran_on, settled_on, IsFromStart, armed_exchanges, commissioned_exchanges, ran_exchanges, settled_exchanges, as_many_kinds, few_rows, some_rows}
 use Rattle.honest_slaves.specs.FileSlaves.{kind_at, status_at}
 use Rattle.honest_slaves.proofs.Beginning.{begins}
 use Rattle.honest_slaves.proofs.Returning.{order_stays}
@@ -133,16 +133,16 @@ module _ (s : SegmentValue) (legal : IsLegal s) where
       (record { sound = starts_timely s legal; are = begins s legal; keep = signals_begin s })).keep
 
   pub commissioned_keeps : (run : RunEnd) → commissioned s ≡ Some run → AllKeepTo (signals_at s) run.state.slaves
-  commissioned_keeps run is = run_keeps run ((commissioned_on s legal).on run is).scripted (commissioned_from s run is)
+  commissioned_keeps run is = run_keeps run ((commissioned_on s legal).on run is).scripted (commissioned_exchanges s run is)
 
   pub settled_keeps : (run : RunEnd) → settled s ≡ Some run → AllKeepTo (signals_at s) run.state.slaves
-  settled_keeps run is = run_keeps run ((settled_on s legal).on run is).scripted (settled_from s run is)
+  settled_keeps run is = run_keeps run ((settled_on s legal).on run is).scripted (settled_exchanges s run is)
 
   pub armed_keeps : (run : RunEnd) → armed s ≡ Some run → AllKeepTo (signals_at s) run.state.slaves
-  armed_keeps run is = run_keeps run ((armed_on s legal).on run is).scripted (armed_from s run is)
+  armed_keeps run is = run_keeps run ((armed_on s legal).on run is).scripted (armed_exchanges s run is)
 
   pub ran_keeps : (run : RunEnd) → ran s ≡ Some run → AllKeepTo (signals_at s) run.state.slaves
-  ran_keeps run is = run_keeps run ((ran_on s legal).on run is).scripted (ran_from s run is)
+  ran_keeps run is = run_keeps run ((ran_on s legal).on run is).scripted (ran_exchanges s run is)
 
   -- clocks that go on to the end of the run
   advanced_at : (own : Signal → Bool) (t : ℕ) (o : Option Slave) (v : Slave) → ((u : Slave) → o ≡ Some u → SlaveKeepsTo own u) → option_map (advanced_to t) o ≡ Some v → SlaveKeepsTo own v

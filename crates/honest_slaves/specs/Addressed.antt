@@ -8,7 +8,8 @@ use Rattle.honest_slaves.specs.Standing.{own_address, Stands, AreStanding}
 use Rattle.honest_slaves.specs.Mindful.{AreMindful}
 
 -- Datagram k of a mindful frame is sent by the station address of the slave at position p, and finds it named.
-pub record ByStation (kinds : ℕ → ClockKind) (statuses : ℕ → ℕ) (named k p sent : ℕ) (ss : List Slave) (ds : List DatagramValue) (d : DatagramValue) (s : Slave) : Type 0 where
+pub record ByStation (kinds : ℕ → ClockKind) (statuses : ℕ → ℕ) (named k p sent : ℕ) (ss : List Slave) (ds : List DatagramValue)
+    (d : DatagramValue) (s : Slave) : Type 0 where
   pub few : length ss ≤ 256
   pub standing : AreStanding kinds statuses named ss
   pub mindful : AreMindful 0 ds

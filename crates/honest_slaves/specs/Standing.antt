@@ -1,8 +1,9 @@
 -- Slaves by position: what each of them is, and the station address that it has or may be given.
-use Rattle.std.specs.Prelude.{◌≡◌, ◌⊎◌, ℕ, ◌+◌, nat_lt, Bool, true, false, List, length, Some, slice_get}
+use Rattle.std.specs.Prelude.{◌≡◌, ◌⊎◌, ℕ, nat_lt, Bool, true, false, List, length, Some, slice_get}
 use Rattle.esc_regs.specs.declared.clock_kind.ClockKind.{ClockKind}
 use Rattle.esc_regs.specs.RegisterTable.{features}
 use Rattle.frame_pass.specs.SlaveState.{Slave, holds, station}
+use Rattle.master_script.specs.Frames.{station as own_station}
 
 -- a slave of this kind, which shows the features of its kind and this DL status
 pub record IsSlave (kind : ClockKind) (status : ℕ) (s : Slave) : Type 0 where
@@ -13,7 +14,7 @@ pub record IsSlave (kind : ClockKind) (status : ℕ) (s : Slave) : Type 0 where
 
 -- the station address that a master gives the slave at a position
 abbrev pub own_address : ℕ → ℕ
-own_address q = 0x1001 + q
+own_address q = own_station q
 
 -- a slave that was given its station address, and one that may have none yet
 abbrev pub HasAddress : Bool → ℕ → ℕ → Type 0

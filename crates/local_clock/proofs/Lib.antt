@@ -6,6 +6,7 @@ mod ManyTicks
 mod WorkedOff
 mod History
 mod LocalTime
+mod Since
 mod Steady
 mod Behind
 mod Rounds

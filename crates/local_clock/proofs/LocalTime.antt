@@ -85,6 +85,26 @@ whole_in_turn s t c (h ∷ rest) later run early late until from =
     rw (first, second)
     (whole_in_turn s t a rest later (rw osc run) (omega (arith, at, here)) late (All-tail (λ (e : Happening). e.instant ≤ s) h rest until) from)
 
+-- the clock at t has t as its instant, and the oscillator that it had
+pub whole_stands : (t : ℕ) (c : Clock) (events : List Happening) → ((whole_clock_at c events t).instant ≡ t) × ((whole_clock_at c events t).osc ≡ c.osc)
+whole_stands t c [] = (refl, refl)
+whole_stands t c (h ∷ rest) =
+    let a = whole_advanced h.instant c in
+    elim (cases_lt t h.instant) [
+      | inr until ↦
+          let e = is_until h.instant t until in
+          let there = whole_stands t (after_event h.event a) rest in
+          rw e (there.0, there.1 ∙ event_osc h.event a)
+      | inl after ↦ let e = is_after h.instant t after in rw e (refl, refl)
+    ]
+
+-- an advance to its own instant changes nothing
+pub whole_here : (c : Clock) → whole_advanced c.instant c ≡ c
+whole_here c =
+    let none : ticks_to c c.instant ≡ 0 = omega arith in
+    let same : c.reading + 0 ≡ c.reading = omega arith in
+    rw (none, same) refl
+
 -- an event that has come by t, and one that has not
 come : (t : ℕ) (c : Clock) (h : Happening) (rest : List Happening) → h.instant ≤ t
     → whole_clock_at c (h ∷ rest) t ≡ whole_clock_at (after_event h.event (whole_advanced h.instant c)) rest t

@@ -4,4 +4,5 @@ pub mod LocalTime
 pub mod FirstReaching
 pub mod AtOnce
 pub mod WorkedOff
+pub mod Since
 pub mod InsideClock

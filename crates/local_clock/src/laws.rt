@@ -12,6 +12,7 @@ ghost use Rattle.local_clock.specs.Reading.{Clock, started, steering_of, ticks_t
 ghost use Rattle.local_clock.specs.Reading.{Happening, IsPossible, after_event, clock_at, reading_at, AreUntil, AreInOrder};
 ghost use Rattle.local_clock.specs.LocalTime.{whole_clock_at, local_time, cut_to};
 ghost use Rattle.local_clock.specs.FirstReaching.{is_behind, tick_after};
+ghost use Rattle.local_clock.specs.Since.{IsSince};
 
 /// The reading less what is left rises by exactly 10 ns at every tick, whether it corrects or not.
 /// So k ticks after a received d, with no other event, it has risen by 10·k - d + left.
@@ -49,7 +50,8 @@ pub fn advances_in_turn()
     ensures here { (w : ℕ) → (c : Clock) → c.reading < 2 ^ w → advanced w c.instant c ≡ c }
     ensures twice { (w s t : ℕ) → (c : Clock) → IsRunning c.osc → c.instant ≤ s → s ≤ t → advanced w t (advanced w s c) ≡ advanced w t c }
     ensures reading { (w t k : ℕ) → (c : Clock) → reading_after w (advanced w t c) k ≡ reading_after w c (ticks_to c t + k) }
-    ensures tick { (w t k : ℕ) → (c : Clock) → IsRunning c.osc → c.instant ≤ t → tick_after (advanced w t c) k ≡ tick_after c (ticks_to c t + k) }
+    ensures tick { (w t k : ℕ) → (c : Clock) → IsRunning c.osc → c.instant ≤ t
+        → tick_after (advanced w t c) k ≡ tick_after c (ticks_to c t + k) }
     ensures count { (c : Clock) → (k : ℕ) → IsRunning c.osc → ticks_to c (tick_after c k) ≡ k }
 {}
 
@@ -58,7 +60,8 @@ pub fn advances_in_turn()
 pub fn steady()
     ensures ticks { (g k : ℕ) → (s : Steering) → IsSteady g s → IsSteady g (steered g k s) }
     ensures new { (osc : Oscillator) → (start g : ℕ) → 1 ≤ g → IsSteady g (steering_of (started osc start g)) }
-    ensures history { (w t : ℕ) → (c : Clock) → (events : List Happening) → IsSteady c.g (steering_of c) → All (λ h. IsPossible h.event) events
+    ensures history { (w t : ℕ) → (c : Clock) → (events : List Happening) → IsSteady c.g (steering_of c)
+        → All (λ h. IsPossible h.event) events
         → IsSteady (clock_at w c events t).g (steering_of (clock_at w c events t)) }
 {}
 
@@ -91,10 +94,13 @@ pub fn local_time_is_cut()
     ensures clock { (w t : ℕ) → (c : Clock) → (events : List Happening) → clock_at w c events t ≡ cut_to w (whole_clock_at c events t) }
     ensures reading { (w t : ℕ) → (c : Clock) → (events : List Happening) → reading_at w c events t ≡ local_time c events t % 2 ^ w }
     ensures in_turn { (s t : ℕ) → (c : Clock) → (before later : List Happening) → IsRunning c.osc → c.instant ≤ s → s ≤ t
-        → AreUntil s before → AreInOrder s later → whole_clock_at (whole_clock_at c before s) later t ≡ whole_clock_at c (before ++ later) t }
-    ensures slowest { (s t k : ℕ) → (c : Clock) → (events : List Happening) → IsRunning c.osc → c.instant ≤ s → s ≤ t → AreInOrder c.instant events
+        → AreUntil s before → AreInOrder s later
+        → whole_clock_at (whole_clock_at c before s) later t ≡ whole_clock_at c (before ++ later) t }
+    ensures slowest { (s t k : ℕ) → (c : Clock) → (events : List Happening) → IsRunning c.osc → c.instant ≤ s → s ≤ t
+        → AreInOrder c.instant events
         → ticks c.osc s + k ≡ ticks c.osc t → local_time c events s + 9 * k ≤ local_time c events t }
-    ensures fastest { (s t k : ℕ) → (c : Clock) → (events : List Happening) → IsRunning c.osc → c.instant ≤ s → s ≤ t → AreInOrder c.instant events
+    ensures fastest { (s t k : ℕ) → (c : Clock) → (events : List Happening) → IsRunning c.osc → c.instant ≤ s → s ≤ t
+        → AreInOrder c.instant events
         → ticks c.osc s + k ≡ ticks c.osc t → local_time c events t ≤ local_time c events s + 11 * k }
 {}
 
@@ -107,6 +113,14 @@ pub fn words_of_local_time()
     ensures offset { (w n s t : ℕ) → (c : Clock) → (events : List Happening) → local_time c events s ≤ local_time c events t
         → (reading_at w c events t + word_less w n (reading_at w c events s)) % 2 ^ w
         ≡ (n + (local_time c events t - local_time c events s)) % 2 ^ w }
+{}
+
+/// Since a clock received a difference d, with no other event, its local time has gone on by 10 ns a tick
+/// and by what is left of d, less d. Of d as much is worked off as the ticks since then allow, and no more.
+pub fn times_since_receipts()
+    ensures { (c : Clock) (events : List Happening) (at : ℕ) (d : ℤ) (t : ℕ) → IsRunning c.osc → c.instant ≤ at → at ≤ t
+        → AreUntil at events
+        → 0 < (whole_clock_at c events at).g → IsSince c events at d t }
 {}
 
 /// Of the words of numbers less than half of the range apart, that of the lesser number is behind.

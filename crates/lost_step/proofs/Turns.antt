@@ -31,7 +31,7 @@ pub all_take : (ps : List ℕ) → filter (λ p. true) ps ≡ ps
 all_take [] = refl
 all_take (p ∷ ps) = ap (λ (x : List ℕ). p ∷ x) (all_take ps)
 
-none_asked : (lost : ℕ → Bool) (a : ℕ) → asked lost a [] ≡ Ok a
+none_asked : (lost : ℕ → Bool) (a : ℕ) → asked {A = Step} lost a [] ≡ Ok a
 unfolding asked
 none_asked lost a = refl
 

@@ -1,5 +1,5 @@
 -- The step whose three tries are all lost in a run, by the list of losses alone: no frame and no clock is needed to tell it.
-use Rattle.std.specs.Prelude.{ℕ, ◌+◌, Bool, if◌then◌else◌, List, [], ◌∷◌, ◌++◌, length, map, filter, Option, Some, None, Result, Ok, Err}
+use Rattle.std.specs.Prelude.{ℕ, ◌+◌, nat_lt, Bool, true, if◌then◌else◌, List, [], ◌∷◌, ◌++◌, length, map, filter, Option, Some, None, Result, Ok, Err}
 use Rattle.std.specs.Option.{is_some, option_or}
 use Rattle.std.specs.Result.{result_err}
 use Rattle.dc_delay.specs.ShapeRows.{positions}
@@ -15,19 +15,24 @@ use Rattle.segment_file.specs.Segment.{SegmentValue, counts_of, measures_at, clo
 abbrev pub loses : SegmentValue → Phase → ℕ → Bool
 loses s phase number = is_some (loss_at s.losses phase number)
 
+-- a frame comes to a position: it is not lost, or it is lost after that position
+abbrev pub comes_to : Option ℕ → ℕ → Bool
+comes_to None p = true
+comes_to (Some after) p = nat_lt p after
+
 -- Of an exchange whose first try has this number: the number of the next exchange's first try, or None where the three tries are lost.
 unfoldable pub behind_tries : (ℕ → Bool) → ℕ → Option ℕ
 behind_tries lost a =
     if lost a then (if lost (a + 1) then (if lost (a + 2) then None else Some (a + 3)) else Some (a + 2)) else Some (a + 1)
 
 -- the exchanges behind one whose tries end so
-abbrev pub asked_on : Option ℕ → Step → (ℕ → Result ℕ Step) → Result ℕ Step
+abbrev pub asked_on : {A : Type 0} → Option ℕ → A → (ℕ → Result ℕ A) → Result ℕ A
 asked_on None step next = Err step
 asked_on (Some b) step next = next b
 
--- Exchanges of these steps, one after another, of which the first has its first try at this number: the number behind them, or the first
--- step whose three tries are lost.
-unfoldable pub asked : (ℕ → Bool) → ℕ → List Step → Result ℕ Step
+-- Exchanges of these steps, of whatever script, one after another, of which the first has its first try at this number: the number
+-- after them, or the first step whose three tries are lost.
+unfoldable pub asked : {A : Type 0} → (ℕ → Bool) → ℕ → List A → Result ℕ A
 asked lost a [] = Ok a
 asked lost a (step ∷ rest) = asked_on (behind_tries lost a) step (λ b. asked lost b rest)
 

@@ -1,13 +1,17 @@
-//! The frames of the master's script, as they are sent: the datagrams of a step, by its position and its numbers
-//! (`specs/Frames.antt` of `master_script`; ESC data sheet, Section II, distributed clocks registers).
+//! What the master sends, and what it reads of a reply: the frames of its script, by position and numbers (`specs/Frames.antt` of
+//! `master_script`; ESC data sheet, Section II, distributed clocks registers), and what comes back in them.
 //!
-//! A frame is told by the list of its datagrams alone. What the numbers are, and which step is asked when, is a matter of
-//! the layer above.
+//! A frame is told by the list of its datagrams alone. What the numbers are, which step is asked when, and over what link, is a
+//! matter of the layers above.
 #![tactic(auto)]
 
 mod frames;
+mod replies;
+mod slave_words;
 
 pub use frames::{
     arm_frame, count_frame, drift_frame, identify_frame, latch_frame, rate_frame, set_frame,
     times_frame,
 };
+pub use replies::{identified_from, latch_in, low_in, miscounted};
+pub use slave_words::SlaveWords;

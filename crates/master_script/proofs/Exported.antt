@@ -24,9 +24,13 @@ pub use Rattle.master_script.proofs.Within.{hung_length, judged_below, StepWithi
 pub use Rattle.master_script.proofs.Wants.{phase_of, wants, wanted_drift, wanted_other}
 -- What a judgement says of a reply.
 pub use Rattle.master_script.proofs.Replies.{reply_told, counter_told}
+-- A judgement is that of the reply, told of a step.
+pub use Rattle.master_script.proofs.Faults.{judged_by_fault}
 -- What a master keeps stays kept.
 pub use Rattle.master_script.proofs.Staying.{stays_kept}
 -- What a stage says of the rest that is kept.
 pub use Rattle.master_script.proofs.Stages.{drifts_told, start_told}
 -- How many frames a call sends that ends with Ok, and where the next phase begins.
 pub use Rattle.master_script.proofs.Calls.{settle_sends, arm_sends, run_sends, commission_done}
+-- Of a configuration the measured delays read the kinds alone.
+pub use Rattle.master_script.proofs.Measured.{delays_by_kinds, delay_by_kinds}

@@ -16,6 +16,8 @@ mod Staying
 mod Stages
 mod Worked
 mod Judging
+mod Faults
 mod Sendings
 mod Calls
+mod Measured
 pub mod Exported

@@ -1,6 +1,7 @@
 pub mod Config
 pub mod Frames
 pub mod Judged
+pub mod ReplyFaults
 pub mod ListedTree
 pub mod Slaves
 pub mod Offset

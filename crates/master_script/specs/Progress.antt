@@ -82,7 +82,8 @@ run_one Running = 1
 
 -- one frame more was sent, and came back or not
 abbrev pub counted : Progress → Option FrameValue → Progress
-counted p back = record p { sent = p.sent + 1; lost = p.lost + lost_one back; drifts = p.drifts + drift_one p.phase; ran = p.ran + run_one p.phase }
+counted p back =
+    record p { sent = p.sent + 1; lost = p.lost + lost_one back; drifts = p.drifts + drift_one p.phase; ran = p.ran + run_one p.phase }
 
 -- a step is lost at its third try
 abbrev pub lost_at : Step → ℕ → Option Refusal

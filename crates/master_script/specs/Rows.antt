@@ -8,7 +8,7 @@ use Rattle.ecat_link.specs.Exchanges.{Exchange}
 use Rattle.dc_delay.specs.declared.kind.Kind.{Kind}
 use Rattle.master_script.specs.declared.plan.SyncPlan.{SyncPlan}
 use Rattle.master_script.specs.Config.{ConfigValue}
-use Rattle.master_script.specs.Frames.{count_datagrams, identify_datagrams, rate_datagrams, latch_datagrams, times_datagrams, set_datagrams, drift_datagrams}
+use Rattle.master_script.specs.Frames.{station, count_datagrams, identify_datagrams, rate_datagrams, latch_datagrams, times_datagrams, set_datagrams, drift_datagrams}
 use Rattle.ecat_frame.specs.Built.{built}
 
 -- the configuration
@@ -50,7 +50,7 @@ counts n = came count_datagrams ((0 ∷ [], n) ∷ [])
 abbrev pub tells : ℕ → ℕ → ℕ → ℕ → Exchange
 tells p features status fourth =
     came (identify_datagrams p)
-    ((little_bytes 2 (0x1001 + p), 1) ∷ (little_bytes 2 features, 1) ∷ (little_bytes 2 status, 1) ∷ (replicate 4 0, fourth) ∷ [])
+    ((little_bytes 2 (station p), 1) ∷ (little_bytes 2 features, 1) ∷ (little_bytes 2 status, 1) ∷ (replicate 4 0, fourth) ∷ [])
 
 -- Identify of a clock of 64 bits with this DL status
 abbrev pub identifies : ℕ → ℕ → Exchange
@@ -78,7 +78,13 @@ abbrev pub other : Command → ℕ → ℕ → Exchange
 other command index wkc = record {
   wait_ns = 1000000;
   sent = built count_datagrams;
-  back = Some (built (record { head = record { command = command; index = index; adp = 2; ado = 0 }; flags = 8; irq = 0; payload = 0 ∷ []; wkc = wkc } ∷ []));
+  back = Some (built (record {
+    head = record { command = command; index = index; adp = 2; ado = 0 };
+    flags = 8;
+    irq = 0;
+    payload = 0 ∷ [];
+    wkc = wkc;
+  } ∷ []));
 }
 
 -- two slaves that have these statuses
@@ -105,7 +111,8 @@ branches = counts 4 ∷ identifies 0 0x5A30 ∷ identifies_none 1 0x6A70 ∷ ide
 -- commissioning of the two slaves
 abbrev pub commissions : List Exchange
 commissions =
-    counts 2 ∷ identifies 0 0x5A30 ∷ identifies 1 0x5610 ∷ came (rate_datagrams 4096) ((little_bytes 2 4096, 2) ∷ []) ∷ came latch_datagrams ((replicate 4 0, 2) ∷ [])
+    counts 2 ∷ identifies 0 0x5A30 ∷ identifies 1 0x5610 ∷ came (rate_datagrams 4096) ((little_bytes 2 4096, 2) ∷ [])
+    ∷ came latch_datagrams ((replicate 4 0, 2) ∷ [])
     ∷ tells_times 0 5000020 5000740 ∷ tells_times 1 0 0 ∷ sets 0 799999999994999980 0 ∷ sets 1 799999999995000000 360 ∷ []
 
 -- their commissioning and settling, with two settle frames
@@ -119,4 +126,5 @@ losing = record base { loss_run = 3 }
 -- its commissioning and settling
 abbrev pub settles_losing : List Exchange
 settles_losing =
-    commissions ++ drifts ((800000000000000000 + 5000000) % 2 ^ 32) ∷ lost (drift_datagrams 0) ∷ lost (drift_datagrams 0) ∷ lost (drift_datagrams 0) ∷ []
+    commissions ++ drifts ((800000000000000000 + 5000000) % 2 ^ 32) ∷ lost (drift_datagrams 0) ∷ lost (drift_datagrams 0)
+    ∷ lost (drift_datagrams 0) ∷ []

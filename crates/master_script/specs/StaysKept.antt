@@ -15,6 +15,7 @@ pub record StaysKept (kept later : Kept) : Type 0 where
   pub slaves : (others : List SlaveWords) × (later.words.slaves ≡ kept.words.slaves ++ others)
   pub reference : (r : ℕ) → kept.words.reference ≡ Some r → later.words.reference ≡ Some r
   pub latched : 0 < kept.words.latched → later.words.latched ≡ kept.words.latched
-  pub latches : (p : ℕ) (latch : Latch) → slice_index_or kept.words.latches p None ≡ Some latch → slice_index_or later.words.latches p None ≡ Some latch
+  pub latches : (p : ℕ) (latch : Latch) → slice_index_or kept.words.latches p None ≡ Some latch
+      → slice_index_or later.words.latches p None ≡ Some latch
   pub delays : kept.delays ≢ [] → later.delays ≡ kept.delays
   pub start : (s : ℕ) → kept.start ≡ Some s → later.start ≡ Some s

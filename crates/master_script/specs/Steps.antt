@@ -41,14 +41,24 @@ data_at f k = (datagram_at f k).payload
 abbrev pub wkc_at : FrameValue → ℕ → ℕ
 wkc_at f k = (datagram_at f k).wkc
 
+-- what a reply tells of its slave by three datagrams from this one on: its features, its DL status, and the working counter of the
+-- read of its system time
+abbrev pub identified_from : ℕ → FrameValue → SlaveWords
+identified_from k f = record {
+  features = little_number 2 (data_at f k);
+  status = little_number 2 (data_at f (k + 1));
+  fourth = wkc_at f (k + 2);
+}
+
 -- what a reply to Identify tells of its slave
 abbrev pub identified : FrameValue → SlaveWords
-identified f = record { features = little_number 2 (data_at f 1); status = little_number 2 (data_at f 2); fourth = wkc_at f 3 }
+identified f = identified_from 1 f
 
 -- what a reply to Times tells
 abbrev pub latch_in : Bool → FrameValue → Latch
 latch_in wide f = record {
-  ports = little_number 4 (data_at f 0) ∷ little_number 4 (drop 4 (data_at f 0)) ∷ little_number 4 (drop 8 (data_at f 0)) ∷ little_number 4 (drop 12 (data_at f 0)) ∷ [];
+  ports = little_number 4 (data_at f 0) ∷ little_number 4 (drop 4 (data_at f 0)) ∷ little_number 4 (drop 8 (data_at f 0))
+      ∷ little_number 4 (drop 12 (data_at f 0)) ∷ [];
   unit = little_number (width wide) (data_at f 1);
 }
 

@@ -3,6 +3,7 @@ use Rattle.std.specs.Prelude.{ℕ, ◌*◌, Bool, List, [], length, map, Option,
 use Rattle.dc_topology.specs.Listed.{Place}
 use Rattle.dc_topology.specs.declared.error.TopologyError.{TopologyError}
 use Rattle.dc_bounds.specs.Weight.{flag}
+use Rattle.dc_delay.specs.declared.kind.Kind.{Kind}
 use Rattle.dc_delay.specs.declared.latch.Latch.{Latch}
 use Rattle.dc_delay.specs.Latched.{laps, measures}
 use Rattle.dc_delay.specs.MeasuredDelay.{delay_list}
@@ -39,13 +40,21 @@ hung_or_none (Err e) = []
 abbrev pub hung_of : Words → List Place
 hung_of w = hung_or_none (tree_told w.slaves)
 
--- the measured delays, by position, once all Times came back
-unfoldable pub delays_of : ConfigValue → Words → List (Option ℕ)
-delays_of cfg w =
-    delay_list (rows_of (hung_of w) cfg.kinds) (measures w.latches) (flag (map is_clock w.slaves)) (laps w.latches)
+-- the measured delays, by position, once all Times came back: by how long each slave keeps a frame, and the words
+unfoldable pub delays_by : List Kind → Words → List (Option ℕ)
+delays_by kinds w =
+    delay_list (rows_of (hung_of w) kinds) (measures w.latches) (flag (map is_clock w.slaves)) (laps w.latches)
     (positions (length (hung_of w)))
 
 -- the measured delay at a position
+abbrev pub delay_by : List Kind → Words → ℕ → ℕ
+delay_by kinds w p = unwrap_or (slice_index_or (delays_by kinds w) p None) 0
+
+-- the same by a configuration, of which they read the kinds alone
+unfoldable pub delays_of : ConfigValue → Words → List (Option ℕ)
+unfolding delays_by
+delays_of cfg w = delays_by cfg.kinds w
+
 abbrev pub delay_at : ConfigValue → Words → ℕ → ℕ
 delay_at cfg w p = unwrap_or (slice_index_or (delays_of cfg w) p None) 0
 

@@ -108,7 +108,8 @@ pub fn calls_end<S>()
 /// run counts as sent, and of commission and arm each is sent again.
 pub fn calls_that_end_with_ok()
     ensures fresh { (cfg : ConfigValue) → Begins cfg Commissioning (progress cfg []) }
-    ensures commission { (cfg : ConfigValue) (es : List Exchange) → Sends (script cfg Commission) [] es → script cfg Commission es ≡ End (Ok tt)
+    ensures commission { (cfg : ConfigValue) (es : List Exchange) → Sends (script cfg Commission) [] es
+        → script cfg Commission es ≡ End (Ok tt)
         → Begins cfg Settling (progress cfg es)
         × (length es ≡ slaves cfg + length (measuring (progress cfg es).words.slaves) + length (clocks (progress cfg es).words.slaves) + 3
         + lost_among es) }

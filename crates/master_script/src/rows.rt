@@ -33,7 +33,8 @@ pub fn dishonest_replies()
     ensures surplus { (kept_after base None (statuses 0x5610 0x5610)).refusal ≡ Some (Topology (Surplus 1)) }
     ensures missing { (kept_after base None (statuses 0x5A30 0x5A30)).refusal ≡ Some (Topology Missing) }
     ensures bad_status { (kept_after base None (statuses 0x5A30 0x0000)).refusal ≡ Some (Topology (BadStatus 1)) }
-    ensures no_clock { (kept_after base None (counts 2 ∷ identifies_none 0 0x5A30 ∷ identifies_none 1 0x5610 ∷ [])).refusal ≡ Some NoReference }
+    ensures no_clock { (kept_after base None (counts 2 ∷ identifies_none 0 0x5A30 ∷ identifies_none 1 0x5610 ∷ [])).refusal
+        ≡ Some NoReference }
     ensures behind_a_branch { (kept_after four_kinds None branches).refusal ≡ Some (Unmeasurable 2) }
     ensures wrapped { (kept_after base None (measures 0xFFFFFFFF 0xFFFFFFFE)).delays ≡ Some 0 ∷ Some 2147483647 ∷ [] }
     ensures first_set { script base Commission (measures 0xFFFFFFFF 0xFFFFFFFE)

@@ -4,7 +4,7 @@
 pub use Rattle.master_steps.proofs.Left.{left, left_yes, left_no, left_end, flag_at}
 -- A step that is sent up to three times.
 pub use Rattle.master_steps.proofs.Trying.{sent_of}
--- A reply with no difference has the shape of what was sent.
+-- A reply is never refused as lost.
 pub use Rattle.master_steps.proofs.Shapes.{never_lost}
 -- The causes of refusals of a step.
 pub use Rattle.master_steps.proofs.Causes.{OfStep, names, reply_causes}

@@ -1,5 +1,4 @@
 mod Left
-mod Miscounts
 mod Trying
 mod Shapes
 mod Received

@@ -1,10 +1,9 @@
--- A reply with no difference has the shape of what was sent.
-use Rattle.std.proofs.Common.{◌≡◌, ◌==◌, cond, ℕ, List, [], ◌∷◌, length, map, replicate, Bool, true, false, Option, Some, None, refl, ap, sym, ◌∙◌}
-use Rattle.std.proofs.lemmas.List.{length-replicate}
-use Rattle.ecat_frame.specs.Difference.{first_difference, wiped_datagram}
-use Rattle.ecat_frame.specs.FrameGrammar.{DatagramValue, FrameValue, IsFrame}
-use Rattle.ecat_frame.proofs.Exported.{none_is_same}
-use Rattle.master_steps.specs.Asking.{sizes}
+-- The shapes of what is sent, and how a judgement of a reply is told.
+use Rattle.std.proofs.Common.{◌<◌, slice_index, arith, ◌≡◌, ◌==◌, cond, ℕ, List, [], ◌∷◌, length, replicate, Bool, true, false, Option, Some, None, refl, ap, sym, ◌∙◌}
+use Rattle.std.proofs.lemmas.List.{length-map}
+use Rattle.ecat_frame.specs.Difference.{first_difference}
+use Rattle.ecat_frame.specs.FrameGrammar.{DatagramValue, FrameValue}
+use Rattle.master_frames.specs.Sizes.{sizes}
 use Rattle.master_script.specs.Config.{ConfigValue}
 use Rattle.master_script.specs.Frames.{width}
 use Rattle.master_script.specs.Judged.{counters, judged, judged_by, miscounted}
@@ -15,18 +14,16 @@ use Rattle.master_script.specs.declared.step.Refusal.TheVariants.{Counter, Lost,
 use Rattle.master_script.specs.declared.step.Step.{Step}
 use Rattle.master_script.specs.declared.step.Step.TheVariants.{Identify, Times, Drift}
 
-wiped_sizes : (ds : List DatagramValue) → map (λ (d : DatagramValue). length d.payload) (map wiped_datagram ds) ≡ map (λ (d : DatagramValue). length d.payload) ds
-wiped_sizes [] = refl
-wiped_sizes (d ∷ ds) = rw (length-replicate {A = ℕ} (length d.payload) 0, wiped_sizes ds) refl
-
-pub alike : (sent reply : FrameValue) → IsFrame sent → IsFrame reply → first_difference sent reply ≡ None → sizes reply ≡ sizes sent
-alike sent reply v w none =
-    let same = ap (λ (f : FrameValue). sizes f) (none_is_same sent reply v w none) in
-    sym (wiped_sizes reply.datagrams) ∙ sym same ∙ wiped_sizes sent.datagrams
-
 pub identify_sizes : (cfg : ConfigValue) (w : Words) (p : ℕ) → sizes (frame_of cfg w (Identify p)) ≡ 2 ∷ 2 ∷ 2 ∷ 4 ∷ []
 unfolding frame_of
 identify_sizes cfg w p = refl
+
+-- a frame of such a shape has the places that Identify's words are read from
+pub identify_places : (f : FrameValue) → sizes f ≡ 2 ∷ 2 ∷ 2 ∷ 4 ∷ [] → (3 < length f.datagrams) × (slice_index (sizes f) 1 ≡ 2) × (slice_index (sizes f) 2 ≡ 2)
+identify_places f e =
+    let many : length (sizes f) ≡ 4 = ap (λ (xs : List ℕ). length xs) e in
+    let whole = length-map f.datagrams (λ (d : DatagramValue). length d.payload) in
+    (omega (arith, many, whole), rw e refl, rw e refl)
 
 times_of : (wide : Bool) → 16 ∷ length {A = ℕ} (replicate (width wide) 0) ∷ [] ≡ 16 ∷ width wide ∷ []
 times_of true = refl

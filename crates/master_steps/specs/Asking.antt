@@ -1,6 +1,6 @@
 -- Where the script stands while a step is asked, by what the master notes.
-use Rattle.std.specs.Prelude.{◌≡◌, ℕ, ◌+◌, ◌-◌, ◌<◌, ◌≤◌, ⊤, List, ◌∷◌, length, map, Option, Some, None, Result, Ok, Err}
-use Rattle.ecat_frame.specs.FrameGrammar.{DatagramValue, FrameValue}
+use Rattle.std.specs.Prelude.{◌≡◌, ℕ, ◌+◌, ◌-◌, ◌<◌, ◌≤◌, ⊤, List, ◌∷◌, length, Option, Some, None, Result, Ok, Err}
+use Rattle.ecat_frame.specs.FrameGrammar.{FrameValue}
 use Rattle.ecat_link.specs.Exchanges.{Exchange}
 use Rattle.ecat_link.specs.RoseBy.{RoseBy}
 use Rattle.master_script.specs.Causes.{CameMiscounted, CameOther}
@@ -16,10 +16,6 @@ use Rattle.master_script.specs.declared.step.Refusal.TheVariants.{Lost, Counter,
 use Rattle.master_script.specs.declared.step.Step.{Step}
 use Rattle.master_script.specs.declared.step.Step.TheVariants.{Identify, Times, Set, Settle, Drift, Arm}
 use Rattle.master_steps.specs.declared.exchange.Counters.{Counters}
-
--- how many bytes of data each datagram of a frame has
-abbrev pub sizes : FrameValue → List ℕ
-sizes f = map (λ (d : DatagramValue). length d.payload) f.datagrams
 
 -- what is known by the time that a step is asked
 abbrev pub CanAsk : ConfigValue → Words → List (Option ℕ) → Step → Type 0

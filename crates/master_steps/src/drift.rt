@@ -3,10 +3,10 @@ ghost use Rattle.std.specs.Prelude.{◌≡◌, ◌∷◌, [], None};
 ghost use Rattle.ecat_frame.specs.FrameGrammar.{IsFrame};
 ghost use Rattle.master_script.specs.Judged.{judged};
 ghost use Rattle.master_script.specs.declared.step.Step.TheVariants.{Drift};
-ghost use Rattle.master_steps.specs.Asking.{sizes};
+ghost use Rattle.master_frames.specs.Sizes.{sizes};
 
-use crate::replies::miscounted;
 use ecat_frame::Frame;
+use master_frames::miscounted;
 use master_script::{Refusal, Step};
 
 /// Why the reply to the drift frame of this number is refused, if it is.

@@ -17,7 +17,6 @@ mod steps;
 pub use config::Config;
 pub use drift::judge_drift;
 pub use exchange::{Counters, Notes, send};
-pub use learned::{Learned, SlaveWords};
-pub use replies::low_in;
+pub use learned::Learned;
 pub use start_time::start;
 pub use steps::take;

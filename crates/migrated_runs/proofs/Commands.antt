@@ -22,7 +22,7 @@ use Rattle.dc_words.specs.declared.command.Command.{Command}
 use Rattle.dc_words.specs.declared.command.Command.TheVariants.{Run, Delays, Check, Migrate}
 use Rattle.dc_top.specs.Answers.{OfFile, RefusesBy, RefusesDriven, RefusesFile, RefusesRun, ServedBy, Writes, input_limit}
 use Rattle.dc_top.specs.CheckText.{check_text}
-use Rattle.dc_top.specs.Runs.{HasMade, IsReport, IsReportOf, text_of}
+use Rattle.dc_top.specs.Runs.{HasMade, IsReport, IsReportOf, text_of_report}
 use Rattle.dc_top.specs.declared.outcome.Outcome.{Outcome}
 use Rattle.dc_top.specs.declared.outcome.Outcome.TheVariants.{Done, ReadFault, WriteFault, NoMemory, TooLong}
 use Rattle.dc_top.specs.declared.outcome.Outcome.TheVariants as outcome
@@ -35,7 +35,7 @@ use Rattle.migrated_runs.proofs.Reports.{same_window, same_table, same_report, s
 pub same_check : (s : SegmentValue) → check_text (migrated s) ≡ check_text s
 same_check s = rw (same_window s) refl
 
-same_text : (r : Report) (s : SegmentValue) (b : BenchState) → text_of r (migrated s) b ≡ text_of r s b
+same_text : (r : Report) (s : SegmentValue) (b : BenchState) → text_of_report r (migrated s) b ≡ text_of_report r s b
 same_text report.Delays s b = same_table s b
 same_text (report.Run edges) s b = same_report s b edges
 same_text report.Drill s b = same_drill s b
@@ -46,7 +46,7 @@ record AreAlike (s t : SegmentValue) : Type 0 where
   pub commissioned : commissioned s ≡ commissioned t
   pub run : run_of s ≡ run_of t
   pub frames : frames_given s ≡ frames_given t
-  pub text : (r : Report) (b : BenchState) → text_of r s b ≡ text_of r t b
+  pub text : (r : Report) (b : BenchState) → text_of_report r s b ≡ text_of_report r t b
   pub check : check_text s ≡ check_text t
 
 migrated_alike : (s : SegmentValue) → AreAlike (migrated s) s

@@ -6,7 +6,7 @@ use Rattle.edge_report.specs.EdgeRows.{edge_row, edges_in_order}
 use Rattle.edge_report.specs.SlaveLine.{measured_text, slave_line, slave_lines}
 use Rattle.edge_report.specs.Slaves.{reference_position, slave_at}
 use Rattle.edge_report.specs.Spread.{allowed_of, spread_of}
-use Rattle.segment_bounds.specs.Bounds.{copy_bound_at, delay_at, delay_bound_at}
+use Rattle.segment_bounds.specs.Bounds.{copy_bound_at, wire_delay_at, delay_bound_at}
 use Rattle.segment_bounds.specs.Window.{window_of}
 use Rattle.segment_file.specs.Segment.{SegmentValue}
 use Rattle.segment_text.specs.Migrated.{migrated}
@@ -19,7 +19,7 @@ same_reference s = refl
 
 -- with the bounds that stand beside its delay
 same_lines : (s : SegmentValue) (delays : List (Option ℕ)) → slave_lines (migrated s) delays ≡ slave_lines s delays
-unfolding slave_line measured_text slave_at reference_position delay_at delay_bound_at
+unfolding slave_line measured_text slave_at reference_position wire_delay_at delay_bound_at
 same_lines s delays = refl
 
 same_spread : (s : SegmentValue) → spread_of (migrated s) ≡ spread_of s
@@ -27,7 +27,7 @@ unfolding spread_of slave_at
 same_spread s = refl
 
 same_allowed : (s : SegmentValue) → allowed_of (migrated s) ≡ allowed_of s
-unfolding allowed_of slave_at copy_bound_at delay_at delay_bound_at
+unfolding allowed_of slave_at copy_bound_at wire_delay_at delay_bound_at
 same_allowed s = refl
 
 same_row : (s : SegmentValue) → edge_row (migrated s) ≡ edge_row s
@@ -43,7 +43,7 @@ unfolding edges_told
 same_told s = refl
 
 pub same_window : (s : SegmentValue) → window_of (migrated s) ≡ window_of s
-unfolding window_of copy_bound_at delay_at delay_bound_at
+unfolding window_of copy_bound_at wire_delay_at delay_bound_at
 same_window s = refl
 
 pub same_table : (s : SegmentValue) (b : BenchState) → table_text (migrated s) b ≡ table_text s b

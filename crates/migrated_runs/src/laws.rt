@@ -38,11 +38,14 @@ pub fn migration_changes_no_report()
 /// Over the file that `migrate` has written of an input the program has the same answers to `run`, `delays` and `check` as
 /// over that input, with the same bytes and the same bench.
 pub fn migrated_files_are_answered_alike()
-    ensures run { (bytes file : List ℕ) → Writes Migrate bytes file None → (edges : Bool) (o : Outcome) (taken taken' : Option (List ℕ)) (bench : Option BenchState)
+    ensures run { (bytes file : List ℕ) → Writes Migrate bytes file None
+        → (edges : Bool) (o : Outcome) (taken taken' : Option (List ℕ)) (bench : Option BenchState)
         → ServedBy (Run edges) file o taken taken' bench ↔ ServedBy (Run edges) bytes o taken taken' bench }
-    ensures delays { (bytes file : List ℕ) → Writes Migrate bytes file None → (o : Outcome) (taken taken' : Option (List ℕ)) (bench : Option BenchState)
+    ensures delays { (bytes file : List ℕ) → Writes Migrate bytes file None
+        → (o : Outcome) (taken taken' : Option (List ℕ)) (bench : Option BenchState)
         → ServedBy Delays file o taken taken' bench ↔ ServedBy Delays bytes o taken taken' bench }
-    ensures check { (bytes file : List ℕ) → Writes Migrate bytes file None → (o : Outcome) (taken taken' : Option (List ℕ)) (bench : Option BenchState)
+    ensures check { (bytes file : List ℕ) → Writes Migrate bytes file None
+        → (o : Outcome) (taken taken' : Option (List ℕ)) (bench : Option BenchState)
         → ServedBy Check file o taken taken' bench ↔ ServedBy Check bytes o taken taken' bench }
 {}
 
@@ -50,7 +53,8 @@ pub fn migrated_files_are_answered_alike()
 /// what it writes is exactly that again.
 pub fn migration_ends()
     ensures short { (bytes file : List ℕ) → Writes Migrate bytes file None → length file ≤ input_limit }
-    ensures accepted { (bytes file : List ℕ) → Writes Migrate bytes file None → (o : Outcome) (bench : Option BenchState) → RefusesBy Migrate file o bench → o ≡ NoMemory }
+    ensures accepted { (bytes file : List ℕ) → Writes Migrate bytes file None → (o : Outcome) (bench : Option BenchState)
+        → RefusesBy Migrate file o bench → o ≡ NoMemory }
     ensures same { (bytes file : List ℕ) → Writes Migrate bytes file None → (text : List ℕ) (bench : Option BenchState)
         → Writes Migrate file text bench ↔ ((text ≡ file) × (bench ≡ None)) }
 {}

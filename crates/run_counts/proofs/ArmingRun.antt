@@ -22,7 +22,7 @@ use Rattle.lost_step.specs.LostStep.{loses, asked, clock_positions, arm_steps as
 use Rattle.run_of_file.specs.MasterOfFile.{master_of}
 use Rattle.run_of_file.specs.RunOfFile.{RunEnd}
 use Rattle.run_counts.specs.Answers.{answer_for}
-use Rattle.run_counts.specs.Honest.{IsRefusedForLoss}
+use Rattle.run_counts.proofs.Honest.{IsRefusedForLoss}
 use Rattle.run_counts.specs.Arming.{ArmsBy, StandsArming, StopsArming, Armed}
 use Rattle.run_counts.proofs.Arming.{after_arms}
 use Rattle.run_counts.proofs.Tries.{begins}

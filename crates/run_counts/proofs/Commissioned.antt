@@ -28,7 +28,7 @@ use Rattle.run_of_file.specs.MasterOfFile.{master_of}
 use Rattle.run_of_file.specs.RunOfFile.{RunEnd, turns, frames_given, commissioned}
 use Rattle.run_of_file.proofs.Exported.{as_many_kinds}
 use Rattle.run_counts.specs.Answers.{answer_for}
-use Rattle.run_counts.specs.Honest.{TellsKinds, IsRefusedForLoss}
+use Rattle.run_counts.proofs.Honest.{TellsKinds, IsRefusedForLoss}
 use Rattle.run_counts.specs.Commissioning.{Asks, Done, Stops, StandsBy, Stands, steps_known}
 use Rattle.run_counts.proofs.Commissioning.{beginning_stands, after_stands}
 use Rattle.run_counts.proofs.Ends.{ended, refused_at_end, never_spent, step_asked}

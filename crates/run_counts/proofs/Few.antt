@@ -20,7 +20,7 @@ use Rattle.run_counts.proofs.Drifted.{went_of}
 use Rattle.run_of_file.specs.MasterOfFile.{master_of}
 use Rattle.run_of_file.specs.RunOfFile.{RunEnd, armed, commissioned, frames_given, ran, run_of, settled}
 use Rattle.run_of_file.proofs.Exported.{as_many_kinds}
-use Rattle.run_counts.specs.Honest.{TellsKinds}
+use Rattle.run_counts.proofs.Honest.{TellsKinds}
 use Rattle.run_counts.specs.Arming.{ArmsBy, StopsArming}
 use Rattle.run_counts.proofs.ArmingRun.{arm_stands, master_first}
 use Rattle.run_counts.proofs.Commissioned.{has_commissioned}

@@ -14,7 +14,7 @@ use Rattle.lost_step.specs.LostStep.{clock_positions, lost_in_commissioning, los
 use Rattle.run_of_file.specs.MasterOfFile.{master_of}
 use Rattle.run_of_file.specs.RunOfFile.{RunEnd, frames_given, commissioned, settled, armed, ran}
 use Rattle.run_counts.specs.Answers.{answer_for}
-use Rattle.run_counts.specs.Honest.{HasHonestReplies}
+use Rattle.run_counts.proofs.Honest.{HasHonestReplies}
 use Rattle.run_counts.proofs.ArmingRun.{arm_answers, arm_done}
 use Rattle.run_counts.proofs.Commissioned.{has_commissioned, commission_answers, known_clocks}
 use Rattle.run_counts.proofs.Ends.{ended}

@@ -27,4 +27,5 @@ mod Drifted
 mod Counting
 mod Few
 mod AtEnd
+mod Honest
 pub mod Exported

@@ -12,7 +12,7 @@ use Rattle.master_script.specs.declared.step.Refusal.TheVariants.{Lost}
 use Rattle.master_script.specs.declared.step.Step.{Step}
 use Rattle.run_of_file.specs.MasterOfFile.{master_of}
 use Rattle.run_of_file.specs.RunOfFile.{RunEnd, commissioned}
-use Rattle.run_counts.specs.Honest.{HasHonestReplies, IsRefusedForLoss, TellsKinds}
+use Rattle.run_counts.proofs.Honest.{HasHonestReplies, IsRefusedForLoss, TellsKinds}
 use Rattle.segment_file.specs.Legal.{IsLegal}
 use Rattle.segment_file.specs.Segment.{SegmentValue}
 

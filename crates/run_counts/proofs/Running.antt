@@ -20,7 +20,7 @@ use Rattle.segment_file.specs.Legal.{IsLegal}
 use Rattle.lost_step.specs.LostStep.{loses}
 use Rattle.run_of_file.specs.MasterOfFile.{master_of}
 use Rattle.run_of_file.specs.RunOfFile.{RunEnd, frames_given}
-use Rattle.run_counts.specs.Honest.{IsRefusedForLoss}
+use Rattle.run_counts.proofs.Honest.{IsRefusedForLoss}
 use Rattle.run_counts.proofs.Ends.{ended, refused_at_end, never_spent}
 use Rattle.run_counts.proofs.Led.{IsLed, HasGone}
 use Rattle.run_counts.proofs.Numbers.{in_step, in_phase}

@@ -20,7 +20,7 @@ use Rattle.segment_file.proofs.Exported.{one_comes}
 use Rattle.lost_step.specs.LostStep.{loses}
 use Rattle.run_of_file.specs.MasterOfFile.{master_of}
 use Rattle.run_of_file.specs.RunOfFile.{RunEnd}
-use Rattle.run_counts.specs.Honest.{IsRefusedForLoss}
+use Rattle.run_counts.proofs.Honest.{IsRefusedForLoss}
 use Rattle.run_counts.specs.Settling.{AllLost, Settles, SettlesBy, StandsSettling}
 use Rattle.run_counts.proofs.Settling.{after_settles}
 use Rattle.run_counts.proofs.Ends.{ended, refused_at_end, never_spent}

@@ -15,7 +15,7 @@ use Rattle.lost_step.specs.LostStep.{loses, clock_positions, commission_steps, f
 use Rattle.lost_step.proofs.Exported.{asked_few}
 use Rattle.run_of_file.specs.MasterOfFile.{master_of}
 use Rattle.run_of_file.specs.RunOfFile.{RunEnd, frames_given, commissioned, settled, armed, ran}
-use Rattle.run_counts.specs.Honest.{HasHonestReplies}
+use Rattle.run_counts.proofs.Honest.{HasHonestReplies}
 use Rattle.run_counts.proofs.ArmingRun.{arm_done, master_first}
 use Rattle.run_counts.proofs.Commissioned.{commission_came}
 use Rattle.run_counts.proofs.Ends.{ended}

@@ -110,7 +110,7 @@ none_tests lost a e = by_tests (lost a) (lost (a + 1)) (lost (a + 2)) e
     by_tests true false z e = absurd (let x = e in cc)
     by_tests false y z e = absurd (let x = e in cc)
 
-none_asked : (lost : ℕ → Bool) (a : ℕ) → asked lost a [] ≡ Ok a
+none_asked : (lost : ℕ → Bool) (a : ℕ) → asked {A = Step} lost a [] ≡ Ok a
 unfolding asked
 none_asked lost a = refl
 

@@ -86,7 +86,7 @@ goes_on lost begin all later number h =
     }
 
 -- all steps came
-all_asked : (lost : ℕ → Bool) (a : ℕ) → asked lost a ([] ++ []) ≡ Ok a
+all_asked : (lost : ℕ → Bool) (a : ℕ) → asked {A = Step} lost a ([] ++ []) ≡ Ok a
 unfolding asked
 all_asked lost a = refl
 

@@ -5,7 +5,6 @@ pub mod Commissioning
 pub mod Settling
 pub mod Arming
 pub mod Numbers
-pub mod Honest
 pub mod Answers
 pub mod Numbered
 pub mod Phases

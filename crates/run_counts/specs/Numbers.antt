@@ -8,7 +8,8 @@ use Rattle.master_script.specs.declared.step.Step.{Step}
 abbrev pub lost_numbers : (ℕ → Bool) → ℕ → ℕ → ℕ
 lost_numbers lost first many = count_by lost (range_with_len first many)
 
--- The exchanges of the steps before this one come, and its first try has the number behind them; that number and the two behind it are lost.
+-- The exchanges of the steps before this one come, and its first try has the number after them; that number and the two after it are
+-- lost.
 pub record IsLostAt (lost : ℕ → Bool) (a : ℕ) (steps : List Step) (step : Step) : Type 0 where
   pub before : List Step
   pub rest : List Step

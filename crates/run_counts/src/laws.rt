@@ -23,7 +23,6 @@ ghost use Rattle.lost_step.specs.LostStep.{arm_steps, asked, clock_positions, co
 ghost use Rattle.run_counts.specs.Numbers.{IsLostAt, lost_numbers};
 ghost use Rattle.loss_list.specs.declared.loss_row.Phase.TheVariants as phase;
 ghost use Rattle.run_counts.specs.Answers.{answer_for};
-ghost use Rattle.run_counts.specs.Honest.{HasHonestReplies};
 ghost use Rattle.std.specs.Option.{is_some};
 ghost use Rattle.cable_tree.specs.FrameOrder.{order};
 ghost use Rattle.master_script.specs.Kept.{Kept};
@@ -43,7 +42,8 @@ pub fn segments_keep_step()
 
 /// Of m + 1 drift numbers in a row one is not listed as lost, so its frame comes back.
 pub fn drift_frames_come()
-    ensures { (s : SegmentValue) (first : ℕ) → IsLegal s → (number : ℕ) × (first ≤ number) × (number ≤ first + s.head.loss_run) × (loses s phase.Drift number ≡ false) }
+    ensures { (s : SegmentValue) (first : ℕ) → IsLegal s
+        → (number : ℕ) × (first ≤ number) × (number ≤ first + s.head.loss_run) × (loses s phase.Drift number ≡ false) }
 {}
 
 /// In a legal segment the positions of the slaves that measure, and of the clocks, are as many as their rows.
@@ -54,19 +54,22 @@ pub fn positions_are_counted()
 
 /// Commissioning of a legal segment has n + N_m + N_c + 3 steps, and arming N_c.
 pub fn steps_are_counted()
-    ensures commissioning { (s : SegmentValue) → IsLegal s → length (commission_steps s) ≡ length s.rows + measuring s.rows + clocks s.rows + 3 }
+    ensures commissioning { (s : SegmentValue) → IsLegal s
+        → length (commission_steps s) ≡ length s.rows + measuring s.rows + clocks s.rows + 3 }
     ensures arming { (s : SegmentValue) → IsLegal s → length (arm_steps s) ≡ clocks s.rows }
 {}
 
 /// Exchanges that all come back use one to three numbers each: one for the try that comes, and one for each that is lost. Those after
 /// them begin at the next number. Where an exchange does not come back, all before it do, and its three tries are lost.
 pub fn exchanges_use_numbers()
-    ensures few { (lost : ℕ → Bool) (a b : ℕ) (steps : List Step) → asked lost a steps ≡ Ok b → (a + length steps ≤ b) × (b ≤ a + 3 * length steps) }
+    ensures few { (lost : ℕ → Bool) (a b : ℕ) (steps : List Step) → asked lost a steps ≡ Ok b
+        → (a + length steps ≤ b) × (b ≤ a + 3 * length steps) }
     ensures used { (lost : ℕ → Bool) (a used : ℕ) (steps : List Step) → asked lost a steps ≡ Ok (a + used)
         → used ≡ length steps + lost_numbers lost a used }
     ensures behind { (lost : ℕ → Bool) (a b : ℕ) (steps others : List Step) → asked lost a steps ≡ Ok b
         → asked lost a (steps ++ others) ≡ asked lost b others }
-    ensures lost { (lost : ℕ → Bool) (a : ℕ) (steps : List Step) (step : Step) → asked lost a steps ≡ Err step → IsLostAt lost a steps step }
+    ensures lost { (lost : ℕ → Bool) (a : ℕ) (steps : List Step) (step : Step) → asked lost a steps ≡ Err step
+        → IsLostAt lost a steps step }
 {}
 
 /// Commissioning stands where the commission frames that are lost leave it, at its start and after each exchange: at a try of a step, past
@@ -88,16 +91,20 @@ pub fn settling_follows_losses()
 /// Arming stands where the drift frames that are lost leave it, after each exchange: at a try of a step, past all steps, or refused with
 /// the step whose three tries are lost.
 pub fn arming_follows_losses()
-    ensures next { (lost : ℕ → Bool) (begin : ℕ) (all : List Step) (cfg : ConfigValue) (p : Progress) (e : Exchange) (step : Step) (rest : List Step) → p.refused ≡ None
-        → p.phase ≡ Arming → p.todo ≡ step ∷ rest → Reached lost begin all p.todo (p.drifts + 1) p.tries → lost (p.drifts + 1) ≡ is_none e.back
+    ensures next { (lost : ℕ → Bool) (begin : ℕ) (all : List Step) (cfg : ConfigValue) (p : Progress) (e : Exchange) (step : Step)
+        (rest : List Step) → p.refused ≡ None
+        → p.phase ≡ Arming → p.todo ≡ step ∷ rest → Reached lost begin all p.todo (p.drifts + 1) p.tries
+        → lost (p.drifts + 1) ≡ is_none e.back
         → StandsArming lost begin all (after cfg p e) }
 {}
 
 /// The list of losses alone tells how each phase of a run ends, and the whole run: it is refused with the first step of commissioning, or
 /// after it of arming, that loses its three tries, and else it ends with Ok.
 pub fn losses_tell_the_answer()
-    ensures commissioned { (s : SegmentValue) (run : RunEnd) → IsLegal s → commissioned s ≡ Some run → run.answer ≡ answer_for (lost_step_of s false) }
-    ensures settled { (s : SegmentValue) (run : RunEnd) → IsLegal s → settled s ≡ Some run → run.answer ≡ answer_for (lost_step_of s false) }
+    ensures commissioned { (s : SegmentValue) (run : RunEnd) → IsLegal s → commissioned s ≡ Some run
+        → run.answer ≡ answer_for (lost_step_of s false) }
+    ensures settled { (s : SegmentValue) (run : RunEnd) → IsLegal s → settled s ≡ Some run
+        → run.answer ≡ answer_for (lost_step_of s false) }
     ensures armed { (s : SegmentValue) (run : RunEnd) → IsLegal s → armed s ≡ Some run → run.answer ≡ answer_for (lost_step_of s true) }
     ensures ran { (s : SegmentValue) (run : RunEnd) → IsLegal s → ran s ≡ Some run → run.answer ≡ answer_for (lost_step_of s true) }
     ensures whole { (s : SegmentValue) (run : RunEnd) → IsLegal s → run_of s ≡ Some run → run.answer ≡ answer_for (lost_step_of s true) }
@@ -122,10 +129,12 @@ pub fn delays_stay()
 pub fn phases_send_so_many()
     ensures commissioned { (s : SegmentValue) (run : RunEnd) → IsLegal s → commissioned s ≡ Some run → run.answer ≡ Ok tt
         → (length (commission_steps s) ≤ length run.exchanges) × (length run.exchanges ≤ 3 * length (commission_steps s)) }
-    ensures settled { (s : SegmentValue) (first run : RunEnd) → IsLegal s → commissioned s ≡ Some first → settled s ≡ Some run → run.answer ≡ Ok tt
+    ensures settled { (s : SegmentValue) (first run : RunEnd) → IsLegal s → commissioned s ≡ Some first → settled s ≡ Some run
+        → run.answer ≡ Ok tt
         → length run.exchanges ≡ length first.exchanges + settle_frames (master_of s) }
     ensures armed { (s : SegmentValue) (first run : RunEnd) → IsLegal s → settled s ≡ Some first → armed s ≡ Some run → run.answer ≡ Ok tt
-        → (length first.exchanges + length (clock_positions s) ≤ length run.exchanges) × (length run.exchanges ≤ length first.exchanges + 3 * length (clock_positions s)) }
+        → (length first.exchanges + length (clock_positions s) ≤ length run.exchanges)
+        × (length run.exchanges ≤ length first.exchanges + 3 * length (clock_positions s)) }
     ensures ran { (s : SegmentValue) (first run : RunEnd) → IsLegal s → armed s ≡ Some first → ran s ≡ Some run → run.answer ≡ Ok tt
         → length run.exchanges ≡ length first.exchanges + frames_given s }
 {}
@@ -134,7 +143,8 @@ pub fn phases_send_so_many()
 /// from 1 again. So commission number k is transmission k, and drift number k is transmission C + k, with C those of commissioning. A frame
 /// does not come back exactly where the file lists its number in its phase.
 pub fn frames_are_numbered()
-    ensures commission { (s : SegmentValue) (run : RunEnd) → IsLegal s → commissioned s ≡ Some run → AreNumbered s phase.Commission 1 run.exchanges }
+    ensures commission { (s : SegmentValue) (run : RunEnd) → IsLegal s → commissioned s ≡ Some run
+        → AreNumbered s phase.Commission 1 run.exchanges }
     ensures settled { (s : SegmentValue) (first run : RunEnd) → IsLegal s → commissioned s ≡ Some first → settled s ≡ Some run
         → (more : List Exchange) × (run.exchanges ≡ first.exchanges ++ more) × AreNumbered s phase.Drift 1 more }
     ensures armed { (s : SegmentValue) (first run : RunEnd) → IsLegal s → commissioned s ≡ Some first → armed s ≡ Some run
@@ -180,33 +190,4 @@ pub fn masters_count_transmissions()
         → IsAtEnd s frames (commissioned s) state m answer → m.sent ≤ 100000 }
     ensures few_in_all { (s : SegmentValue) (frames : Option ℕ) (state : SegmentState) (m : Kept) (answer : Answer) → IsLegal s
         → IsAtEnd s frames (run_of s) state m answer → m.sent ≤ 100000 }
-{}
-
-/// Where replies are honest, the list of losses alone tells how each phase ends: it is refused with the first step of commissioning, or
-/// after it of arming, that loses its three tries, and else it ends with Ok.
-pub fn answers_follow_losses()
-    ensures commissioned { (s : SegmentValue) (run : RunEnd) → IsLegal s → HasHonestReplies s → commissioned s ≡ Some run
-        → run.answer ≡ answer_for (lost_step_of s false) }
-    ensures settled { (s : SegmentValue) (run : RunEnd) → IsLegal s → HasHonestReplies s → settled s ≡ Some run
-        → run.answer ≡ answer_for (lost_step_of s false) }
-    ensures armed { (s : SegmentValue) (run : RunEnd) → IsLegal s → HasHonestReplies s → armed s ≡ Some run
-        → run.answer ≡ answer_for (lost_step_of s true) }
-    ensures ran { (s : SegmentValue) (run : RunEnd) → IsLegal s → HasHonestReplies s → ran s ≡ Some run
-        → run.answer ≡ answer_for (lost_step_of s true) }
-{}
-
-/// Where replies are honest, a phase that ends with Ok has sent so many frames: commissioning and arming one to three for each of their
-/// exchanges, settling K + m + 1, and running as many as it is given.
-pub fn honest_phases_send_so_many()
-    ensures commissioned { (s : SegmentValue) (run : RunEnd) → IsLegal s → HasHonestReplies s → commissioned s ≡ Some run → run.answer ≡ Ok tt
-        → (length (commission_steps s) ≤ length run.exchanges) × (length run.exchanges ≤ 3 * length (commission_steps s)) }
-    ensures settled { (s : SegmentValue) (first run : RunEnd) → IsLegal s → HasHonestReplies s → commissioned s ≡ Some first
-        → settled s ≡ Some run → run.answer ≡ Ok tt
-        → length run.exchanges ≡ length first.exchanges + settle_frames (master_of s) }
-    ensures armed { (s : SegmentValue) (first run : RunEnd) → IsLegal s → HasHonestReplies s → settled s ≡ Some first → armed s ≡ Some run
-        → run.answer ≡ Ok tt
-        → (length first.exchanges + length (clock_positions s) ≤ length run.exchanges) × (length run.exchanges ≤ length first.exchanges + 3 * length (clock_positions s)) }
-    ensures ran { (s : SegmentValue) (first run : RunEnd) → IsLegal s → HasHonestReplies s → armed s ≡ Some first → ran s ≡ Some run
-        → run.answer ≡ Ok tt
-        → length run.exchanges ≡ length first.exchanges + frames_given s }
 {}

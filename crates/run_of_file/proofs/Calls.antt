@@ -9,15 +9,16 @@ use Rattle.master_script.specs.Kept.{Kept, kept_after, StandsFor, Ends, given}
 use Rattle.master_script.specs.Script.{Call, Commission, Settle, Arm, Run, Answer, script}
 use Rattle.master_script.specs.Scripted.{AreScripted, IsLimited, none}
 use Rattle.master_script.proofs.Exported.{calls_scripted, sends_most}
+use Rattle.frame_pass.specs.Invariants.{IsSoundSegment}
 use Rattle.frame_pass.specs.SegmentState.{SegmentState, segment_step}
 use Rattle.segment_file.specs.Segment.{SegmentValue}
 use Rattle.segment_file.specs.Legal.{IsLegal}
 use Rattle.segment_start.specs.Start.{started_segment}
 use Rattle.run_of_file.specs.MasterOfFile.{master_of}
-use Rattle.run_of_file.specs.RunOfFile.{RunEnd, turns, call_run, next_call, followed_by, frames_given, commissioned, settled, armed, ran, master_after}
+use Rattle.run_of_file.specs.RunOfFile.{RunEnd, turns, call_run, next_call, followed_by, frames_given, commissioned_from, settled_from, armed_from, ran_from, commissioned, settled, armed, ran, master_after}
 use Rattle.run_of_file.specs.AtEnd.{IsAtEnd}
 use Rattle.run_of_file.proofs.InRange.{as_many_kinds, some_rows, few_rows, lock_in_few, loss_run_few, frames_few}
-use Rattle.run_of_file.proofs.Ending.{HasEnd, turns_are, commissioned_on, settled_on, armed_on}
+use Rattle.run_of_file.proofs.Ending.{HasEnd, turns_are, commissioned_from_on, settled_from_on, armed_from_on, commissioned_on, settled_on, armed_on}
 
 some_same : {X : Type 0} {x y : X} → Some x ≡ Some y → x ≡ y
 some_same e = cc
@@ -72,11 +73,37 @@ next_by s legal call limited run has state m at later n same answer serves =
     let here : followed_by call s run ≡ call_run s call at.end.exchanges at.end.state = ap (followed_by call s) at.run_is ∙ ap (next_call s call at.end) at.answer_is in
     record { end = c.end; run_is = here ∙ c.run_is; segment_is = c.segment_is; master_is = c.master_is; answer_is = c.answer_is }
 
+-- a run from any state of the segment on
+module _ (s : SegmentValue) (legal : IsLegal s) (start : SegmentState) where
+  pub commissioned_from_by : (m : Kept) → m ≡ master_after s None [] → (later : SegmentState) (n : Kept) → n.config ≡ m.config → (answer : Answer)
+      → Serves segment_step (script m.config Commission) (StandsFor None m) (Some start) (Some later) (Ends m.config Commission n answer)
+      → IsAtEnd s None (commissioned_from s start) later n answer
+  commissioned_from_by m is later n same answer serves = one_call s legal Commission tt [] none start m is later n same answer serves
+
+  module _ (timely : IsSoundSegment start) (state : SegmentState) (m : Kept) where
+    pub settled_from_by : IsAtEnd s None (commissioned_from s start) state m (Ok tt) → (later : SegmentState) (n : Kept) → n.config ≡ m.config → (answer : Answer)
+        → Serves segment_step (script m.config Settle) (StandsFor None m) (Some state) (Some later) (Ends m.config Settle n answer)
+        → IsAtEnd s None (settled_from s start) later n answer
+    settled_from_by at later n same answer serves =
+        next_by s legal Settle tt (commissioned_from s start) (commissioned_from_on s legal start timely) state m at later n same answer serves
+
+    pub armed_from_by : IsAtEnd s None (settled_from s start) state m (Ok tt) → (later : SegmentState) (n : Kept) → n.config ≡ m.config → (answer : Answer)
+        → Serves segment_step (script m.config Arm) (StandsFor None m) (Some state) (Some later) (Ends m.config Arm n answer)
+        → IsAtEnd s None (armed_from s start) later n answer
+    armed_from_by at later n same answer serves =
+        next_by s legal Arm tt (settled_from s start) (settled_from_on s legal start timely) state m at later n same answer serves
+
+    pub ran_from_by : IsAtEnd s None (armed_from s start) state m (Ok tt) → (later : SegmentState) (n : Kept) → n.config ≡ m.config → (answer : Answer)
+        → Serves segment_step (script m.config (Run (frames_given s))) (StandsFor None m) (Some state) (Some later) (Ends m.config (Run (frames_given s)) n answer)
+        → IsAtEnd s (Some (frames_given s)) (ran_from s start) later n answer
+    ran_from_by at later n same answer serves =
+        next_by s legal (Run (frames_given s)) (omega arith) (armed_from s start) (armed_from_on s legal start timely) state m at later n same answer serves
+
 pub commissioned_by : (s : SegmentValue) → IsLegal s → (m : Kept) → m ≡ master_after s None [] → (later : SegmentState) (n : Kept) → n.config ≡ m.config → (answer : Answer)
     → Serves segment_step (script m.config Commission) (StandsFor None m) (Some (started_segment s)) (Some later) (Ends m.config Commission n answer)
     → IsAtEnd s None (commissioned s) later n answer
 unfolding commissioned
-commissioned_by s legal m is later n same answer serves = one_call s legal Commission tt [] none (started_segment s) m is later n same answer serves
+commissioned_by s legal m is later n same answer serves = commissioned_from_by s legal (started_segment s) m is later n same answer serves
 
 pub settled_by : (s : SegmentValue) → IsLegal s → (state : SegmentState) (m : Kept) → IsAtEnd s None (commissioned s) state m (Ok tt)
     → (later : SegmentState) (n : Kept) → n.config ≡ m.config → (answer : Answer)

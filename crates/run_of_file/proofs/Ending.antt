@@ -14,7 +14,7 @@ use Rattle.segment_file.specs.Legal.{IsLegal}
 use Rattle.segment_start.specs.Start.{started_segment}
 use Rattle.segment_start.proofs.Exported.{starts_timely}
 use Rattle.run_of_file.specs.MasterOfFile.{master_of}
-use Rattle.run_of_file.specs.RunOfFile.{RunEnd, turns, call_run, next_call, followed_by, frames_given, commissioned, settled, armed, ran, run_of}
+use Rattle.run_of_file.specs.RunOfFile.{RunEnd, turns, call_run, next_call, followed_by, frames_given, commissioned_from, settled_from, armed_from, ran_from, run_from, commissioned, settled, armed, ran, run_of}
 use Rattle.run_of_file.proofs.InRange.{as_many_kinds, some_rows, few_rows, lock_in_few, loss_run_few, frames_few}
 
 -- what holds of a run between two calls
@@ -66,9 +66,23 @@ followed_on : (s : SegmentValue) → IsLegal s → (call : Call) → IsLimited (
 followed_on s legal call limited None h = absurd (let some = h.some in cc)
 followed_on s legal call limited (Some run) h = next_on s legal call limited run (h.on run refl) run.answer
 
+-- from any state of the segment on
+module _ (s : SegmentValue) (legal : IsLegal s) (start : SegmentState) (timely : IsSoundSegment start) where
+  pub commissioned_from_on : HasEnd s (commissioned_from s start)
+  commissioned_from_on = call_on s legal Commission tt [] start none timely
+
+  pub settled_from_on : HasEnd s (settled_from s start)
+  settled_from_on = followed_on s legal Settle tt (commissioned_from s start) commissioned_from_on
+
+  pub armed_from_on : HasEnd s (armed_from s start)
+  armed_from_on = followed_on s legal Arm tt (settled_from s start) settled_from_on
+
+  pub ran_from_on : HasEnd s (ran_from s start)
+  ran_from_on = followed_on s legal (Run (frames_given s)) (omega arith) (armed_from s start) armed_from_on
+
 pub commissioned_on : (s : SegmentValue) → IsLegal s → HasEnd s (commissioned s)
 unfolding commissioned
-commissioned_on s legal = call_on s legal Commission tt [] (started_segment s) none (starts_timely s legal)
+commissioned_on s legal = commissioned_from_on s legal (started_segment s) (starts_timely s legal)
 
 pub settled_on : (s : SegmentValue) → IsLegal s → HasEnd s (settled s)
 unfolding settled
@@ -89,3 +103,6 @@ some_mapped f None h = absurd (let x = h in cc)
 pub whole_ends : (s : SegmentValue) → IsLegal s → IsSome (run_of s)
 unfolding run_of
 whole_ends s legal = some_mapped _ (ran s) (ran_on s legal).some
+
+pub from_ends : (s : SegmentValue) → IsLegal s → (start : SegmentState) → IsSoundSegment start → IsSome (run_from s start)
+from_ends s legal start timely = some_mapped _ (ran_from s start) (ran_from_on s legal start timely).some

@@ -3,10 +3,10 @@
 -- The numbers of the master of a legal segment.
 pub use Rattle.run_of_file.proofs.InRange.{as_many_kinds, as_many_plans, some_rows, few_rows, lock_in_few, loss_run_few, frames_few}
 -- Every phase of a run ends, follows the script, and lets time go on.
-pub use Rattle.run_of_file.proofs.Ending.{commissioned_on, settled_on, armed_on, ran_on}
+pub use Rattle.run_of_file.proofs.Ending.{commissioned_from_on, settled_from_on, armed_from_on, ran_from_on, commissioned_on, settled_on, armed_on, ran_on}
 -- A master over a segment makes the run of the file, call by call.
-pub use Rattle.run_of_file.proofs.Calls.{commissioned_by, settled_by, armed_by, ran_by}
+pub use Rattle.run_of_file.proofs.Calls.{commissioned_from_by, settled_from_by, armed_from_by, ran_from_by, commissioned_by, settled_by, armed_by, ran_by}
 -- The exchanges of a run are those that the segment makes of its frames, from its start on.
-pub use Rattle.run_of_file.proofs.FromStart.{IsFromStart, commissioned_from, settled_from, armed_from, ran_from, kept_by_runs, ran_few}
+pub use Rattle.run_of_file.proofs.FromStart.{IsFromStart, commissioned_exchanges, settled_exchanges, armed_exchanges, ran_exchanges, kept_by_runs, ran_few}
 -- How a run ends behind each phase.
 pub use Rattle.run_of_file.proofs.Refused.{ran_ends, armed_ends, settled_ends, commissioned_ends, whole_ends_so}

@@ -40,21 +40,21 @@ followed_from : (s : SegmentValue) (call : Call) (o : Option RunEnd) → AreFrom
 followed_from s call None h = λ run is. absurd (let x = is in cc)
 followed_from s call (Some run) h = next_from s call run run.answer (h run refl)
 
-pub commissioned_from : (s : SegmentValue) → AreFromStart s (commissioned s)
+pub commissioned_exchanges : (s : SegmentValue) → AreFromStart s (commissioned s)
 unfolding commissioned
-commissioned_from s = call_from s Commission [] (started_segment s) refl
+commissioned_exchanges s = call_from s Commission [] (started_segment s) refl
 
-pub settled_from : (s : SegmentValue) → AreFromStart s (settled s)
+pub settled_exchanges : (s : SegmentValue) → AreFromStart s (settled s)
 unfolding settled
-settled_from s = followed_from s Settle (commissioned s) (commissioned_from s)
+settled_exchanges s = followed_from s Settle (commissioned s) (commissioned_exchanges s)
 
-pub armed_from : (s : SegmentValue) → AreFromStart s (armed s)
+pub armed_exchanges : (s : SegmentValue) → AreFromStart s (armed s)
 unfolding armed
-armed_from s = followed_from s Arm (settled s) (settled_from s)
+armed_exchanges s = followed_from s Arm (settled s) (settled_exchanges s)
 
-pub ran_from : (s : SegmentValue) → AreFromStart s (ran s)
+pub ran_exchanges : (s : SegmentValue) → AreFromStart s (ran s)
 unfolding ran
-ran_from s = followed_from s (Run (frames_given s)) (armed s) (armed_from s)
+ran_exchanges s = followed_from s (Run (frames_given s)) (armed s) (armed_exchanges s)
 
 -- what each sending keeps, a run keeps
 pub kept_by_runs : (P : SegmentState → Type 0) → ((s : SegmentState) (wait_ns : ℕ) (f : FrameValue) → P s → P (segment_step s wait_ns f).0)
@@ -104,6 +104,6 @@ ran_few s legal run is =
     let most = sends_most (master_of s) (frames_given s) run.exchanges (omega (arith, many, some)) (omega (arith, many, few)) (lock_in_few s legal) (loss_run_few s legal)
     ((ran_on s legal).on run is).scripted in
     let frames = frames_few s legal in
-    let sent = sent_few run.exchanges (started_segment s) run.state (ran_from s run is) in
+    let sent = sent_few run.exchanges (started_segment s) run.state (ran_exchanges s run is) in
     let none = none_sent s in
     omega (arith, most, frames, sent, none)

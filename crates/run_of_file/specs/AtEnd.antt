@@ -8,7 +8,8 @@ use Rattle.run_of_file.specs.RunOfFile.{RunEnd, master_after}
 
 -- The segment is in the state in which this run leaves it, the master keeps what the script gives over the run's exchanges
 -- (where `run` was given this number of frames, once it was called), and the last call has the run's answer.
-pub record IsAtEnd (s : SegmentValue) (frames : Option ℕ) (run : Option RunEnd) (segment : SegmentState) (master : Kept) (answer : Answer) : Type 0 where
+pub record IsAtEnd (s : SegmentValue) (frames : Option ℕ) (run : Option RunEnd) (segment : SegmentState) (master : Kept)
+    (answer : Answer) : Type 0 where
   pub end : RunEnd
   pub run_is : run ≡ Some end
   pub segment_is : segment ≡ end.state

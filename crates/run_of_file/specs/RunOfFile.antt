@@ -36,9 +36,22 @@ followed_by call s (Some run) = next_call s call run run.answer
 abbrev pub frames_given : SegmentValue → ℕ
 frames_given s = frames_of_run s.head (counts_of s.rows)
 
--- the run up to the end of each phase; that of `delays` is the first
+-- the run up to the end of each phase, from this state of the segment on
+abbrev pub commissioned_from : SegmentValue → SegmentState → Option RunEnd
+commissioned_from s start = call_run s Commission [] start
+
+abbrev pub settled_from : SegmentValue → SegmentState → Option RunEnd
+settled_from s start = followed_by Settle s (commissioned_from s start)
+
+abbrev pub armed_from : SegmentValue → SegmentState → Option RunEnd
+armed_from s start = followed_by Arm s (settled_from s start)
+
+abbrev pub ran_from : SegmentValue → SegmentState → Option RunEnd
+ran_from s start = followed_by (Run (frames_given s)) s (armed_from s start)
+
+-- the same from the start that the file gives; the run of `delays` is the first
 unfoldable pub commissioned : SegmentValue → Option RunEnd
-commissioned s = call_run s Commission [] (started_segment s)
+commissioned s = commissioned_from s (started_segment s)
 
 unfoldable pub settled : SegmentValue → Option RunEnd
 settled s = followed_by Settle s (commissioned s)
@@ -57,9 +70,17 @@ abbrev pub rounded_off : SegmentValue → RunEnd → Answer → RunEnd
 rounded_off s run (Ok tt) = record run { state = finished (end_of_run s run.state) run.state }
 rounded_off s run (Err e) = run
 
+-- a run with its end, where every clock has gone on
+abbrev pub with_end : SegmentValue → Option RunEnd → Option RunEnd
+with_end s run = option_map (λ (r : RunEnd). rounded_off s r r.answer) run
+
+-- the whole run from this state of the segment on
+abbrev pub run_from : SegmentValue → SegmentState → Option RunEnd
+run_from s start = with_end s (ran_from s start)
+
 -- the whole run of a file
 unfoldable pub run_of : SegmentValue → Option RunEnd
-run_of s = option_map (λ run. rounded_off s run run.answer) (ran s)
+run_of s = with_end s (ran s)
 
 -- what the master of a file keeps after these exchanges, where `run` was given this number of frames, once it was called
 abbrev pub master_after : SegmentValue → Option ℕ → List Exchange → Kept

@@ -13,7 +13,7 @@ ghost use Rattle.segment_file.specs.Segment.{SegmentValue};
 ghost use Rattle.segment_file.specs.Legal.{IsLegal};
 ghost use Rattle.run_of_file.specs.MasterOfFile.{master_of};
 ghost use Rattle.master_script.specs.declared.step.MasterError.{MasterError};
-ghost use Rattle.run_of_file.specs.RunOfFile.{RunEnd, commissioned, settled, armed, ran, run_of, end_of_run, frames_given, master_after};
+ghost use Rattle.run_of_file.specs.RunOfFile.{RunEnd, commissioned, settled, armed, ran, run_of, end_of_run, commissioned_from, settled_from, armed_from, ran_from, run_from, frames_given, master_after};
 ghost use Rattle.run_of_file.specs.AtEnd.{IsAtEnd};
 
 /// The master of a legal segment is told of each slave once, and its numbers lie in their ranges.
@@ -26,39 +26,52 @@ pub fn masters_are_in_range()
     ensures frames { (s : SegmentValue) → IsLegal s → frames_given s ≤ 100000 }
 {}
 
-/// Every legal segment has a run, and each phase of it has an end.
+/// Every legal segment has a run, and each phase of it has an end. So does a run from any sound state of the segment on.
 pub fn runs_end()
     ensures commissioned { (s : SegmentValue) → IsLegal s → IsSome (commissioned s) }
     ensures settled { (s : SegmentValue) → IsLegal s → IsSome (settled s) }
     ensures armed { (s : SegmentValue) → IsLegal s → IsSome (armed s) }
     ensures ran { (s : SegmentValue) → IsLegal s → IsSome (ran s) }
     ensures whole { (s : SegmentValue) → IsLegal s → IsSome (run_of s) }
+    ensures from { (s : SegmentValue) → IsLegal s → (start : SegmentState) → IsSoundSegment start → IsSome (run_from s start) }
 {}
 
 /// The exchanges of a run are those that the script wants, in each phase, and time never goes back in it.
 pub fn runs_follow_the_script()
-    ensures commissioned { (s : SegmentValue) (run : RunEnd) → IsLegal s → commissioned s ≡ Some run → AreScripted (master_of s) (frames_given s) run.exchanges × IsSoundSegment run.state }
-    ensures settled { (s : SegmentValue) (run : RunEnd) → IsLegal s → settled s ≡ Some run → AreScripted (master_of s) (frames_given s) run.exchanges × IsSoundSegment run.state }
-    ensures armed { (s : SegmentValue) (run : RunEnd) → IsLegal s → armed s ≡ Some run → AreScripted (master_of s) (frames_given s) run.exchanges × IsSoundSegment run.state }
-    ensures ran { (s : SegmentValue) (run : RunEnd) → IsLegal s → ran s ≡ Some run → AreScripted (master_of s) (frames_given s) run.exchanges × IsSoundSegment run.state }
+    ensures commissioned { (s : SegmentValue) (run : RunEnd) → IsLegal s → commissioned s ≡ Some run
+        → AreScripted (master_of s) (frames_given s) run.exchanges × IsSoundSegment run.state }
+    ensures settled { (s : SegmentValue) (run : RunEnd) → IsLegal s → settled s ≡ Some run
+        → AreScripted (master_of s) (frames_given s) run.exchanges × IsSoundSegment run.state }
+    ensures armed { (s : SegmentValue) (run : RunEnd) → IsLegal s → armed s ≡ Some run
+        → AreScripted (master_of s) (frames_given s) run.exchanges × IsSoundSegment run.state }
+    ensures ran { (s : SegmentValue) (run : RunEnd) → IsLegal s → ran s ≡ Some run
+        → AreScripted (master_of s) (frames_given s) run.exchanges × IsSoundSegment run.state }
 {}
 
 /// The exchanges of a run are those that the segment makes of its frames, from its start on, and they are few.
 pub fn runs_are_the_segments()
-    ensures commissioned { (s : SegmentValue) (run : RunEnd) → commissioned s ≡ Some run → Runs segment_step (Some (started_segment s)) run.exchanges (Some run.state) }
-    ensures settled { (s : SegmentValue) (run : RunEnd) → settled s ≡ Some run → Runs segment_step (Some (started_segment s)) run.exchanges (Some run.state) }
-    ensures armed { (s : SegmentValue) (run : RunEnd) → armed s ≡ Some run → Runs segment_step (Some (started_segment s)) run.exchanges (Some run.state) }
-    ensures ran { (s : SegmentValue) (run : RunEnd) → ran s ≡ Some run → Runs segment_step (Some (started_segment s)) run.exchanges (Some run.state) }
+    ensures commissioned { (s : SegmentValue) (run : RunEnd) → commissioned s ≡ Some run
+        → Runs segment_step (Some (started_segment s)) run.exchanges (Some run.state) }
+    ensures settled { (s : SegmentValue) (run : RunEnd) → settled s ≡ Some run
+        → Runs segment_step (Some (started_segment s)) run.exchanges (Some run.state) }
+    ensures armed { (s : SegmentValue) (run : RunEnd) → armed s ≡ Some run
+        → Runs segment_step (Some (started_segment s)) run.exchanges (Some run.state) }
+    ensures ran { (s : SegmentValue) (run : RunEnd) → ran s ≡ Some run
+        → Runs segment_step (Some (started_segment s)) run.exchanges (Some run.state) }
     ensures few { (s : SegmentValue) (run : RunEnd) → IsLegal s → ran s ≡ Some run → run.state.sent ≤ 203097 }
 {}
 
 /// A phase that ends in a refusal ends the run; one that ends with Ok goes on, and behind the last one every clock goes on to
 /// the end of the run.
 pub fn refusals_end_the_run()
-    ensures commissioned { (s : SegmentValue) (state : SegmentState) (m : Kept) (e : MasterError) → IsAtEnd s None (commissioned s) state m (Err e) → IsAtEnd s None (run_of s) state m (Err e) }
-    ensures settled { (s : SegmentValue) (state : SegmentState) (m : Kept) (e : MasterError) → IsAtEnd s None (settled s) state m (Err e) → IsAtEnd s None (run_of s) state m (Err e) }
-    ensures armed { (s : SegmentValue) (state : SegmentState) (m : Kept) (e : MasterError) → IsAtEnd s None (armed s) state m (Err e) → IsAtEnd s None (run_of s) state m (Err e) }
-    ensures ran { (s : SegmentValue) (frames : Option ℕ) (state : SegmentState) (m : Kept) (e : MasterError) → IsAtEnd s frames (ran s) state m (Err e) → IsAtEnd s frames (run_of s) state m (Err e) }
+    ensures commissioned { (s : SegmentValue) (state : SegmentState) (m : Kept) (e : MasterError)
+        → IsAtEnd s None (commissioned s) state m (Err e) → IsAtEnd s None (run_of s) state m (Err e) }
+    ensures settled { (s : SegmentValue) (state : SegmentState) (m : Kept) (e : MasterError) → IsAtEnd s None (settled s) state m (Err e)
+        → IsAtEnd s None (run_of s) state m (Err e) }
+    ensures armed { (s : SegmentValue) (state : SegmentState) (m : Kept) (e : MasterError) → IsAtEnd s None (armed s) state m (Err e)
+        → IsAtEnd s None (run_of s) state m (Err e) }
+    ensures ran { (s : SegmentValue) (frames : Option ℕ) (state : SegmentState) (m : Kept) (e : MasterError)
+        → IsAtEnd s frames (ran s) state m (Err e) → IsAtEnd s frames (run_of s) state m (Err e) }
     ensures whole { (s : SegmentValue) (frames : Option ℕ) (state : SegmentState) (m : Kept) → IsAtEnd s frames (ran s) state m (Ok tt)
         → IsAtEnd s frames (run_of s) (finished (end_of_run s state) state) m (Ok tt) }
 {}
@@ -66,8 +79,10 @@ pub fn refusals_end_the_run()
 /// A master that calls over a segment's step makes the run of the file: what each call leaves is the end of the run up to
 /// that phase. `Serves` and `Ends` are what a master's contract says of a call.
 pub fn calls_make_the_run()
-    ensures commission { (s : SegmentValue) → IsLegal s → (m : Kept) → m ≡ master_after s None [] → (later : SegmentState) (n : Kept) → n.config ≡ m.config
-        → (answer : Answer) → Serves segment_step (script m.config Commission) (StandsFor None m) (Some (started_segment s)) (Some later) (Ends m.config Commission n answer)
+    ensures commission { (s : SegmentValue) → IsLegal s → (m : Kept) → m ≡ master_after s None [] → (later : SegmentState) (n : Kept)
+        → n.config ≡ m.config
+        → (answer : Answer) → Serves segment_step (script m.config Commission) (StandsFor None m) (Some (started_segment s)) (Some later)
+        (Ends m.config Commission n answer)
         → IsAtEnd s None (commissioned s) later n answer }
     ensures settle { (s : SegmentValue) → IsLegal s → (state : SegmentState) (m : Kept) → IsAtEnd s None (commissioned s) state m (Ok tt)
         → (later : SegmentState) (n : Kept) → n.config ≡ m.config → (answer : Answer)
@@ -79,6 +94,32 @@ pub fn calls_make_the_run()
         → IsAtEnd s None (armed s) later n answer }
     ensures run { (s : SegmentValue) → IsLegal s → (state : SegmentState) (m : Kept) → IsAtEnd s None (armed s) state m (Ok tt)
         → (later : SegmentState) (n : Kept) → n.config ≡ m.config → (answer : Answer)
-        → Serves segment_step (script m.config (Run (frames_given s))) (StandsFor None m) (Some state) (Some later) (Ends m.config (Run (frames_given s)) n answer)
+        → Serves segment_step (script m.config (Run (frames_given s))) (StandsFor None m) (Some state) (Some later)
+        (Ends m.config (Run (frames_given s)) n answer)
         → IsAtEnd s (Some (frames_given s)) (ran s) later n answer }
+{}
+
+/// The same from any sound state of the segment on, such as one in which a latch input expects an event.
+pub fn calls_make_runs_from()
+    ensures commission { (s : SegmentValue) → IsLegal s → (start : SegmentState) (m : Kept) → m ≡ master_after s None []
+        → (later : SegmentState) (n : Kept) → n.config ≡ m.config
+        → (answer : Answer) → Serves segment_step (script m.config Commission) (StandsFor None m) (Some start) (Some later)
+        (Ends m.config Commission n answer)
+        → IsAtEnd s None (commissioned_from s start) later n answer }
+    ensures settle { (s : SegmentValue) → IsLegal s → (start : SegmentState) → IsSoundSegment start
+        → (state : SegmentState) (m : Kept) → IsAtEnd s None (commissioned_from s start) state m (Ok tt)
+        → (later : SegmentState) (n : Kept) → n.config ≡ m.config → (answer : Answer)
+        → Serves segment_step (script m.config Settle) (StandsFor None m) (Some state) (Some later) (Ends m.config Settle n answer)
+        → IsAtEnd s None (settled_from s start) later n answer }
+    ensures arm { (s : SegmentValue) → IsLegal s → (start : SegmentState) → IsSoundSegment start
+        → (state : SegmentState) (m : Kept) → IsAtEnd s None (settled_from s start) state m (Ok tt)
+        → (later : SegmentState) (n : Kept) → n.config ≡ m.config → (answer : Answer)
+        → Serves segment_step (script m.config Arm) (StandsFor None m) (Some state) (Some later) (Ends m.config Arm n answer)
+        → IsAtEnd s None (armed_from s start) later n answer }
+    ensures run { (s : SegmentValue) → IsLegal s → (start : SegmentState) → IsSoundSegment start
+        → (state : SegmentState) (m : Kept) → IsAtEnd s None (armed_from s start) state m (Ok tt)
+        → (later : SegmentState) (n : Kept) → n.config ≡ m.config → (answer : Answer)
+        → Serves segment_step (script m.config (Run (frames_given s))) (StandsFor None m) (Some state) (Some later)
+        (Ends m.config (Run (frames_given s)) n answer)
+        → IsAtEnd s (Some (frames_given s)) (ran_from s start) later n answer }
 {}

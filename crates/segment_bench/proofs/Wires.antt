@@ -9,7 +9,7 @@ use Rattle.frame_pass.specs.SlaveState.{fixed_part}
 use Rattle.frame_pass.proofs.Exported.{same_step, same_finished}
 use Rattle.master_script.specs.Script.{Answer}
 use Rattle.run_of_file.specs.RunOfFile.{RunEnd, ran, run_of, rounded_off, end_of_run}
-use Rattle.run_of_file.proofs.Exported.{kept_by_runs, ran_from}
+use Rattle.run_of_file.proofs.Exported.{kept_by_runs, ran_exchanges}
 use Rattle.segment_file.specs.Legal.{IsLegal}
 use Rattle.segment_file.specs.Segment.{SegmentValue}
 use Rattle.segment_start.specs.Start.{started_segment}
@@ -23,8 +23,8 @@ pub record IsWireOf (s : SegmentValue) (w : SegmentState) : Type 0 where
 pub ran_keeps : (s : SegmentValue) → IsLegal s → (run : RunEnd) → ran s ≡ Some run → IsWireOf s run.state
 ran_keeps s legal run is = record {
   slaves = kept_by_runs (λ (w : SegmentState). map fixed_part w.slaves ≡ map fixed_part (started_segment s).slaves) (λ w wait_ns f h. (same_step w wait_ns f).slaves ∙ h)
-      run.exchanges (started_segment s) run.state (ran_from s run is) refl;
-  numbered = kept_by_runs (λ (w : SegmentState). AreNumberedSlaves w.slaves) numbers_step run.exchanges (started_segment s) run.state (ran_from s run is) (numbers_begin s legal);
+      run.exchanges (started_segment s) run.state (ran_exchanges s run is) refl;
+  numbered = kept_by_runs (λ (w : SegmentState). AreNumberedSlaves w.slaves) numbers_step run.exchanges (started_segment s) run.state (ran_exchanges s run is) (numbers_begin s legal);
 }
 
 pub finish_keeps : (s : SegmentValue) (t : ℕ) (w : SegmentState) → IsWireOf s w → IsWireOf s (finished t w)

@@ -23,9 +23,7 @@ pub fn new_bench(alloc: Global, segment: &Segment) -> Result<Bench, NoMemory>
     ensures refusal { IfOk result (λ bench. bench.master.refusal ≡ None) }
 {
     let wire = Wire::build(alloc, segment)?;
-    let Ok(config) = config(alloc, segment) else {
-        return Err(NoMemory);
-    };
+    let config = config(alloc, segment)?;
     let master = Master::new(alloc, config)?;
     Ok(Bench::new(wire, master))
 }

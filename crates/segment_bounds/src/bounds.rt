@@ -1,5 +1,5 @@
 ghost use Rattle.std.specs.Prelude.{◌≡◌, ◌*◌, ◌^◌, ◌<◌, ◌≤◌, length};
-ghost use Rattle.segment_bounds.specs.Bounds.{copy_bound_at, delay_at, delay_bound_at, weight_at};
+ghost use Rattle.segment_bounds.specs.Bounds.{copy_bound_at, wire_delay_at, delay_bound_at, weight_at};
 
 use dc_bounds::weight;
 use segment_file::{Segment, clock_flags, measuring_flags};
@@ -27,10 +27,10 @@ pub fn delay_bound(segment: &Segment, row: u16) -> u128
 }
 
 /// D: how much later a frame reaches the clock at a row than the reference (fs).
-#[tactic(auto, unfolding(crate::specs::Bounds::delay_at))]
+#[tactic(auto, unfolding(crate::specs::Bounds::wire_delay_at))]
 pub fn true_delay(segment: &Segment, row: u16) -> u64
     requires { row < length segment.now.rows }
-    ensures { result ≡ delay_at segment.now row }
+    ensures { result ≡ wire_delay_at segment.now row }
 {
     let tree = segment.tree();
     tree.arrive(row)

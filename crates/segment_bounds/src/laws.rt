@@ -6,7 +6,7 @@ ghost use Rattle.dc_bounds.specs.LockNumbers.{period_fs};
 ghost use Rattle.dc_bounds.specs.TickBounds.{tick_gap};
 ghost use Rattle.segment_file.specs.Legal.{IsLegal};
 ghost use Rattle.segment_file.specs.Segment.{SegmentValue, clock_at, reference_row, signals, tree_rows};
-ghost use Rattle.segment_bounds.specs.Bounds.{copy_bound_at, delay_at, delay_bound_at, reference_of, weight_at};
+ghost use Rattle.segment_bounds.specs.Bounds.{copy_bound_at, wire_delay_at, delay_bound_at, reference_row_of, weight_at};
 ghost use Rattle.segment_bounds.specs.Window.{signals_from, window_between, window_of};
 ghost use Rattle.segment_bounds.specs.declared.signal.Signal.{Signal};
 
@@ -20,11 +20,11 @@ pub fn quarter_period()
 /// There is a reference. At it, and at no other row, the weight, the delay bound and the copy bound are 0;
 /// so is the true delay at it.
 pub fn nothing_at_the_reference()
-    ensures row { (s : SegmentValue) → IsLegal s → reference_row s.rows ≡ Some (reference_of s) }
-    ensures weight { (s : SegmentValue) (r : ℕ) → IsLegal s → (weight_at s r ≡ 0) ↔ (r ≡ reference_of s) }
-    ensures delay_bound { (s : SegmentValue) (r : ℕ) → IsLegal s → (delay_bound_at s r ≡ 0) ↔ (r ≡ reference_of s) }
-    ensures copy_bound { (s : SegmentValue) (r : ℕ) → (copy_bound_at s r ≡ 0) ↔ (r ≡ reference_of s) }
-    ensures delay { (s : SegmentValue) → delay_at s (reference_of s) ≡ 0 }
+    ensures row { (s : SegmentValue) → IsLegal s → reference_row s.rows ≡ Some (reference_row_of s) }
+    ensures weight { (s : SegmentValue) (r : ℕ) → IsLegal s → (weight_at s r ≡ 0) ↔ (r ≡ reference_row_of s) }
+    ensures delay_bound { (s : SegmentValue) (r : ℕ) → IsLegal s → (delay_bound_at s r ≡ 0) ↔ (r ≡ reference_row_of s) }
+    ensures copy_bound { (s : SegmentValue) (r : ℕ) → (copy_bound_at s r ≡ 0) ↔ (r ≡ reference_row_of s) }
+    ensures delay { (s : SegmentValue) → wire_delay_at s (reference_row_of s) ≡ 0 }
 {}
 
 /// The window of a segment is that of two of its signals, or 0, and no two of its signals have a greater
@@ -41,8 +41,8 @@ pub fn the_window_is_the_greatest()
 /// frame period.
 pub fn delays_lie_within_a_period()
     ensures arrivals { (s : SegmentValue) (r : ℕ) → IsLegal s → r < length s.rows → clock_at s.rows r ≡ true
-        → arrive (tree_rows s.rows) (reference_of s) + delay_at s r ≡ arrive (tree_rows s.rows) r }
-    ensures short { (s : SegmentValue) (r : ℕ) → IsLegal s → r < length s.rows → delay_at s r < period_fs s.head.frame_ns }
+        → arrive (tree_rows s.rows) (reference_row_of s) + wire_delay_at s r ≡ arrive (tree_rows s.rows) r }
+    ensures short { (s : SegmentValue) (r : ℕ) → IsLegal s → r < length s.rows → wire_delay_at s r < period_fs s.head.frame_ns }
 {}
 
 /// A legal segment has as many signals as its count says.

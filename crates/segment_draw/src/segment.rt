@@ -8,9 +8,9 @@ ghost use Rattle.segment_draw.specs.Generated.{drawn_head, generated, rows_from}
 use crate::draws::{draw_slave, seeded};
 use crate::slave::row_of;
 use dc_base::NoMemory;
+use loss_list::LossList;
 use segment_file::{Segment, SlaveRow};
 use segment_shape::Head;
-use loss_list::LossList;
 use std::alloc::{AllocError, Global};
 
 /// The head of every generated segment.
@@ -60,8 +60,6 @@ pub fn generate(alloc: Global, n: u16, seed: u64) -> Result<Segment, NoMemory>
     ensures is { IfOk result (λ s. s ≡ generated n seed) }
     ensures legal { IsLegal (generated n seed) }
 {
-    match drawn_segment(alloc, n, seed) {
-        Ok(segment) => Ok(segment),
-        Err(_) => Err(NoMemory),
-    }
+    let segment = drawn_segment(alloc, n, seed)?;
+    Ok(segment)
 }

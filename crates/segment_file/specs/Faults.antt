@@ -38,7 +38,8 @@ is_within ppm period = nat_le (tick_fs - tolerance ppm) period && nat_le period 
 -- the clock of a slave has a period outside the ppm, at first or later, or its first tick comes after its first period
 abbrev pub is_off : ℕ → RowValue → Bool
 is_off ppm r =
-    is_measuring r && not (nat_le r.phase_fs r.period_fs && is_within ppm r.period_fs && list_all (λ change. is_within ppm change.period) r.rates)
+    is_measuring r && not (nat_le r.phase_fs r.period_fs && is_within ppm r.period_fs
+    && list_all (λ change. is_within ppm change.period) r.rates)
 
 -- the id of a row
 abbrev pub id_at : List RowValue → ℕ → List ℕ

@@ -56,7 +56,8 @@ pub(crate) fn check(
     ensures ok { OnOk result (fault_of (record { head = head_seen head; rows = map row_seen rows.now; losses = losses.now }) ≡ None) }
     ensures reference { IfOk result (λ c. reference_row (map row_seen rows.now) ≡ Some c.reference) }
     ensures counts { IfOk result (λ c. counts_seen c.counts ≡ counts_of (map row_seen rows.now)) }
-    ensures err { IfErr result (IsFaultOf (fault_of (record { head = head_seen head; rows = map row_seen rows.now; losses = losses.now }))) }
+    ensures err { IfErr result (IsFaultOf
+        (fault_of (record { head = head_seen head; rows = map row_seen rows.now; losses = losses.now }))) }
 {
     let reference = check_clocks(head.ppm, rows, tree)?;
     let counts = counts_of(rows);

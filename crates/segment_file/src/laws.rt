@@ -46,7 +46,8 @@ pub fn clocks_keep_time()
 /// There is a reference, and every slave that measures can be measured.
 pub fn slaves_are_measurable()
     ensures reference { (s : SegmentValue) → IsLegal s → (r : ℕ) × (reference_row s.rows ≡ Some r) }
-    ensures measurable { (s : SegmentValue) → IsLegal s → unmeasurable (tree_rows s.rows) (measures_at s.rows) (order (tree_rows s.rows)) ≡ None }
+    ensures measurable { (s : SegmentValue) → IsLegal s
+        → unmeasurable (tree_rows s.rows) (measures_at s.rows) (order (tree_rows s.rows)) ≡ None }
 {}
 
 /// A frame comes back within a frame period, the fall μ from one drift frame that comes to the next is 1 ns

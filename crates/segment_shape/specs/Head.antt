@@ -25,4 +25,13 @@ head_of d = do
   epoch_ns ← number_at (codes "epoch_ns") 0 4000000000000000000 d
   cycle_ns ← number_at (codes "cycle_ns") 50000 500000000 d
   cycles ← number_at (codes "cycles") 1 100000 d
-  Ok (record { version = version; ppm = ppm; frame_ns = frame_ns; speed = speed; loss_run = loss_run; epoch_ns = epoch_ns; cycle_ns = cycle_ns; cycles = cycles })
+  Ok (record {
+    version = version;
+    ppm = ppm;
+    frame_ns = frame_ns;
+    speed = speed;
+    loss_run = loss_run;
+    epoch_ns = epoch_ns;
+    cycle_ns = cycle_ns;
+    cycles = cycles;
+  })

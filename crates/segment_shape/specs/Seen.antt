@@ -6,7 +6,7 @@ use Rattle.segment_shape.specs.ShapeOf.{ShapeValue}
 use Rattle.segment_shape.specs.declared.segment_head.Head.{Head}
 use Rattle.segment_shape.specs.declared.slave_row.Parent.{Parent}
 use Rattle.segment_shape.specs.declared.slave_row.ShapeRow.{ShapeRow}
-use Rattle.segment_shape.specs.declared.slave_row.Place.{Place}
+use Rattle.segment_shape.specs.declared.slave_row.RowBase.{RowBase}
 use Rattle.segment_shape.specs.declared.slave_row.Times.{Times}
 use Rattle.segment_shape.specs.declared.shape.Shape.{Shape}
 
@@ -25,7 +25,7 @@ head_seen h = record {
 abbrev pub parent_seen : Parent → ParentValue
 parent_seen p = record { id = p.id.bytes; port = p.port }
 
-abbrev pub place_seen : Place → PlaceValue
+abbrev pub place_seen : RowBase → PlaceValue
 place_seen p = record {
   id = p.id.bytes;
   kind = p.kind;

@@ -82,7 +82,9 @@ unfoldable pub slave_data : ℕ → SlaveValue → Data
 slave_data version s = object (members_of (slave_entries (changes version s.kind) s))
 
 abbrev pub loss_entries : LossRow → List Entry
-loss_entries r = at_key (codes "after") (whole r.after) ∷ at_key (codes "number") (whole r.number) ∷ at_key (codes "phase") (string (phase_name r.phase)) ∷ []
+loss_entries r =
+    at_key (codes "after") (whole r.after) ∷ at_key (codes "number") (whole r.number) ∷ at_key (codes "phase") (string (phase_name r.phase))
+    ∷ []
 
 unfoldable pub loss_data : LossRow → Data
 loss_data r = object (members_of (loss_entries r))

@@ -36,7 +36,8 @@ pub struct Shape {
 fn rows_in(alloc: Global, values: &[Value], head: Head) -> Result<Vec<ShapeRow>, ShapeError>
     requires few { length values.now ≤ 256 }
     requires cycle { 1 ≤ head.cycle_ns }
-    ensures ok { IfOk result (λ v. rows_after (codes "slaves") (slave_in head.version head.cycle_ns) [] (items_view values.now) ≡ Ok (map row_seen v.items)) }
+    ensures ok { IfOk result (λ v. rows_after (codes "slaves") (slave_in head.version head.cycle_ns) [] (items_view values.now)
+        ≡ Ok (map row_seen v.items)) }
     ensures err { IfErr result (IsFault (rows_after (codes "slaves") (slave_in head.version head.cycle_ns) [] (items_view values.now))) }
     ensures few { IfOk result (λ v. length v.items ≤ 256) }
 {

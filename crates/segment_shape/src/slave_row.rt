@@ -56,7 +56,7 @@ pub struct ShapeRow {
 
 /// What a row says of every slave.
 #[derive(Clone, Copy)]
-pub(crate) struct Place {
+pub(crate) struct RowBase {
     id: Id,
     kind: ClockKind,
     tp_ns: u16,
@@ -132,7 +132,7 @@ fn parent_of(value: &Value) -> Result<Option<Parent>, Key>
 }
 
 #[tactic(auto, unfolding(crate::specs::Slaves::place_of))]
-fn place_of(value: &Value) -> Result<Place, Key>
+fn place_of(value: &Value) -> Result<RowBase, Key>
     ensures ok { IfOk result (λ p. place_of (view value.now) ≡ Ok (place_seen p)) }
     ensures err { IfErr result (λ k. place_of (view value.now) ≡ Err (name_of k)) }
 {
@@ -142,7 +142,7 @@ fn place_of(value: &Value) -> Result<Place, Key>
     let tf_ns = number_at(value, Key::TfNs, 1, 10_000)?;
     let cable_ps = number_at(value, Key::CablePs, 0, 100_000_000)?;
     let parent = parent_of(value)?;
-    Ok(Place {
+    Ok(RowBase {
         id,
         kind,
         tp_ns: tp_ns as u16,

@@ -38,13 +38,15 @@ pub fn slave_at_position()
 /// connected.
 pub fn visits_in_turn()
     ensures row { (s : SegmentValue) (r : ℕ) → IsLegal s → r < length s.rows → AreInTurn (slave_of s r).visits }
-    ensures position { (s : SegmentValue) (p : ℕ) (v : Slave) → IsLegal s → slice_get (started_segment s).slaves p ≡ Some v → AreInTurn v.visits }
+    ensures position { (s : SegmentValue) (p : ℕ) (v : Slave) → IsLegal s → slice_get (started_segment s).slaves p ≡ Some v
+        → AreInTurn v.visits }
 {}
 
 /// The clock of each measuring slave begins without a history, shows a word of its width, and runs.
 pub fn clocks_begin()
     ensures { (s : SegmentValue) (r : ℕ) → IsLegal s → r < length s.rows
-        → IfSome (slave_of s r).timing (λ m. HasHistory (width (slave_of s r).registers.kind) m.clock [] (slave_of s r) × IsRunning m.clock.osc × (m.clock.instant ≡ 0)) }
+        → IfSome (slave_of s r).timing
+        (λ m. HasHistory (width (slave_of s r).registers.kind) m.clock [] (slave_of s r) × IsRunning m.clock.osc × (m.clock.instant ≡ 0)) }
 {}
 
 /// Nothing was sent yet, and every slave is at true time 0, with 4096 bytes of registers and visits within the
@@ -64,6 +66,7 @@ pub fn sending_times()
 /// and every sending and every finish leaves it so.
 pub fn edges_are_numbered()
     ensures start { (s : SegmentValue) → IsLegal s → AreNumberedSlaves (started_segment s).slaves }
-    ensures step { (s : SegmentState) (wait_ns : ℕ) (f : FrameValue) → AreNumberedSlaves s.slaves → AreNumberedSlaves (segment_step s wait_ns f).0.slaves }
+    ensures step { (s : SegmentState) (wait_ns : ℕ) (f : FrameValue) → AreNumberedSlaves s.slaves
+        → AreNumberedSlaves (segment_step s wait_ns f).0.slaves }
     ensures finish { (t : ℕ) (s : SegmentState) → AreNumberedSlaves s.slaves → AreNumberedSlaves (finished t s).slaves }
 {}

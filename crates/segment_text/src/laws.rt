@@ -18,7 +18,8 @@ pub fn migration_keeps_segments()
     ensures legal { (s : SegmentValue) → IsLegal s → IsLegal (migrated s) }
     ensures text { (s : SegmentValue) → IsLegal s → IsSegmentText (segment_text (migrated s)) (migrated s) }
     ensures once { (s : SegmentValue) → migrated (migrated s) ≡ migrated s }
-    ensures again { (s t : SegmentValue) → IsLegal s → IsSegmentText (segment_text (migrated s)) t → segment_text (migrated t) ≡ segment_text (migrated s) }
+    ensures again { (s t : SegmentValue) → IsLegal s → IsSegmentText (segment_text (migrated s)) t
+        → segment_text (migrated t) ≡ segment_text (migrated s) }
 {}
 
 /// A written file has at most 16,777,216 bytes, which is the longest input that is read.

@@ -45,7 +45,8 @@ fn push_rows(text: &mut Vec<u8>, losses: &[LossRow]) -> Result<(), AllocError>
 /// The losses of a file, at their key.
 #[tactic(auto, unfolding(crate::specs::Text::entry_text))]
 pub(crate) fn push_losses(text: &mut Vec<u8>, losses: &[LossRow]) -> Result<(), AllocError>
-    ensures { OnOk result (text.new.items ≡ text.old.items ++ entry_text (at_key (codes "losses") (array (items_for loss_data losses.now)))) }
+    ensures { OnOk result (text.new.items
+        ≡ text.old.items ++ entry_text (at_key (codes "losses") (array (items_for loss_data losses.now)))) }
 {
     push_key(text, "losses")?;
     push_rows(text, losses)

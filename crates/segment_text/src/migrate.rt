@@ -6,10 +6,10 @@ ghost use Rattle.segment_file.specs.Seen.{row_seen};
 ghost use Rattle.segment_text.specs.Migrated.{migrated};
 
 use dc_base::NoMemory;
+use loss_list::LossList;
 use osc_clock::{RateList, RateRow};
 use segment_file::{LossRow, Segment, SlaveRow};
 use segment_shape::Head;
-use loss_list::LossList;
 use std::alloc::{AllocError, Global};
 
 fn copied_rates(rates: &[RateRow]) -> RateList
@@ -91,8 +91,6 @@ fn migrate(alloc: Global, segment: &Segment) -> Result<Segment, AllocError>
 pub fn migrated(alloc: Global, segment: &Segment) -> Result<Segment, NoMemory>
     ensures { IfOk result (λ s. s ≡ migrated segment.now) }
 {
-    match migrate(alloc, segment) {
-        Ok(migrated) => Ok(migrated),
-        Err(_) => Err(NoMemory),
-    }
+    let migrated = migrate(alloc, segment)?;
+    Ok(migrated)
 }

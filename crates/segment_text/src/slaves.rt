@@ -73,7 +73,8 @@ fn parent_of(rows: &[SlaveRow], above: Option<Above>) -> Option<Parent>
 #[tactic(auto, unfolding(crate::specs::Text::entry_text))]
 fn push_parent(text: &mut Vec<u8>, parent: &Option<Parent>) -> Result<(), AllocError>
     requires { IfSome parent.now (λ p. is_plain p.id.bytes ≡ true) }
-    ensures { OnOk result (text.new.items ≡ text.old.items ++ entry_text (at_key_of (λ p. string p.id) (codes "parent") (option_map parent_seen parent.now))) }
+    ensures { OnOk result (text.new.items
+        ≡ text.old.items ++ entry_text (at_key_of (λ p. string p.id) (codes "parent") (option_map parent_seen parent.now))) }
 {
     if let Some(parent) = parent {
         push_key(text, "parent")?;
@@ -84,7 +85,8 @@ fn push_parent(text: &mut Vec<u8>, parent: &Option<Parent>) -> Result<(), AllocE
 
 #[tactic(auto, unfolding(crate::specs::Text::entry_text))]
 fn push_port(text: &mut Vec<u8>, parent: &Option<Parent>) -> Result<(), AllocError>
-    ensures { OnOk result (text.new.items ≡ text.old.items ++ entry_text (at_key_of (λ p. whole p.port) (codes "port") (option_map parent_seen parent.now))) }
+    ensures { OnOk result (text.new.items
+        ≡ text.old.items ++ entry_text (at_key_of (λ p. whole p.port) (codes "port") (option_map parent_seen parent.now))) }
 {
     if let Some(parent) = parent {
         push_whole(text, "port", u64::from(parent.port))?;
@@ -116,7 +118,8 @@ fn push_rate_rows(text: &mut Vec<u8>, rates: &[RateRow]) -> Result<(), AllocErro
 // The changes of a period, where it may change.
 #[tactic(auto, unfolding(crate::specs::Text::entry_text))]
 fn push_rates(text: &mut Vec<u8>, changing: bool, rates: &[RateRow]) -> Result<(), AllocError>
-    ensures { OnOk result (text.new.items ≡ text.old.items ++ entry_text (at_key_if changing (codes "rates") (array (items_for rate_data rates.now)))) }
+    ensures { OnOk result (text.new.items
+        ≡ text.old.items ++ entry_text (at_key_if changing (codes "rates") (array (items_for rate_data rates.now)))) }
 {
     if changing {
         push_key(text, "rates")?;
@@ -146,7 +149,8 @@ fn push_oscillator(
     row: &SlaveRow,
     parent: &Option<Parent>,
 ) -> Result<(), AllocError>
-    ensures { OnOk result (text.new.items ≡ text.old.items ++ oscillator_text version (row_seen row.now) (option_map parent_seen parent.now)) }
+    ensures { OnOk result (text.new.items
+        ≡ text.old.items ++ oscillator_text version (row_seen row.now) (option_map parent_seen parent.now)) }
 {
     let measures = measures(row.kind);
     push_whole_if(text, measures, "period_fs", row.period_fs)?;
@@ -182,7 +186,8 @@ pub(crate) fn push_slave(
     requires above { IfSome row.now.above (λ a. a.row < length rows.now) }
     requires ids { All (λ r. is_plain r.id ≡ true) (map row_seen rows.now) }
     requires id { is_plain row.now.id.bytes ≡ true }
-    ensures { OnOk result (text.new.items ≡ text.old.items ++ compact_text (slave_data version (written_row (map row_seen rows.now) (row_seen row.now)))) }
+    ensures { OnOk result (text.new.items
+        ≡ text.old.items ++ compact_text (slave_data version (written_row (map row_seen rows.now) (row_seen row.now)))) }
 {
     let parent = parent_of(rows, row.above);
     push_place(text, row, &parent)?;

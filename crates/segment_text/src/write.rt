@@ -80,8 +80,6 @@ pub fn write_segment(alloc: Global, segment: &Segment) -> Result<Vec<u8>, NoMemo
     ensures read { IfOk result (λ text. IsSegmentText text.items segment.now) }
 {
     let mut text = Vec::new(alloc);
-    match push_segment(&mut text, segment) {
-        Ok(()) => Ok(text),
-        Err(_) => Err(NoMemory),
-    }
+    push_segment(&mut text, segment)?;
+    Ok(text)
 }

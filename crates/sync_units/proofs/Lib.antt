@@ -5,4 +5,5 @@ mod Exact
 mod Calls
 mod KeptOfSignal
 mod Spare
+mod Rising
 pub mod Exported

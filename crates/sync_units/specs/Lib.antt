@@ -6,3 +6,4 @@ pub mod NextEdge
 pub mod Quiet
 pub mod Interval
 pub mod Calls
+pub mod Rising

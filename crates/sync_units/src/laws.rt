@@ -1,6 +1,6 @@
 //! Laws over the definitions alone, for proofs of the layers above.
 
-ghost use Rattle.std.specs.Prelude.{◌≡◌, ℕ, ◌+◌, ◌^◌, ◌<◌, ◌≤◌, List, [], ◌++◌, take, Option, Some, None};
+ghost use Rattle.std.specs.Prelude.{◌≡◌, ℕ, ◌+◌, ◌*◌, ◌^◌, ◌<◌, ◌≤◌, List, [], ◌++◌, take, Option, Some, None};
 ghost use Rattle.osc_clock.specs.Ticks.{Oscillator, IsRunning, ticks, instant};
 ghost use Rattle.sync_units.specs.declared.edge.Edge.{Edge};
 ghost use Rattle.sync_units.specs.declared.edge.Signal.{Signal};
@@ -12,6 +12,7 @@ ghost use Rattle.sync_units.specs.Quiet.{AreQuiet, spare_of};
 ghost use Rattle.sync_units.specs.KeptEdges.{Kept, empty_list, put_all};
 ghost use Rattle.sync_units.specs.Edges.{EdgeAt, AreEdges, start_of, edges_of, first_edges};
 ghost use Rattle.sync_units.specs.Calls.{Call, AreInTurn, ticks_of_calls, copy_in, unit_after_calls, list_after_calls};
+ghost use Rattle.sync_units.specs.Rising.{AreRising, AreWordsOf, RaisesAt};
 
 /// The edges of j + k ticks are those of j ticks, and then those of k ticks from the unit that they
 /// leave. A list takes edges one after the other.
@@ -70,4 +71,13 @@ pub fn calls_in_turn()
     ensures list { (w : ℕ) (o : Oscillator) (t : ℕ) (cs : List Call) (unit : Option Armed) (l : Kept) → IsRunning o → AreInTurn o t cs
         → list_after_calls w cs unit l
         ≡ put_all (unit_edges w (copy_in w cs) (λ k. instant o (ticks o t + k)) (ticks_of_calls o t cs) unit) l }
+{}
+
+/// Where the copies at n ticks are the words of numbers that rise by at most 11 a tick, the first due value
+/// is ahead by less than 2^31, and the cycle is from 11 to 2^31 - 1, edge k is raised at one of these ticks
+/// if the numbers come to what is then due; there the number is at most 10 above that.
+pub fn edges_of_rising_copies()
+    ensures { (w : ℕ) (whole copy : ℕ → ℕ) (n cycle v k : ℕ) → 32 ≤ w → AreRising whole n → AreWordsOf w whole copy n
+        → whole 0 < v → v < whole 0 + 2 ^ 31 → 11 ≤ cycle → cycle < 2 ^ 31 → v + k * cycle ≤ whole n
+        → (m : ℕ) × (m ≤ n) × RaisesAt w whole copy cycle v k m }
 {}

@@ -16,14 +16,14 @@ use crate::slave::Slave;
 use crate::visits::Visits;
 use cable_tree::{Port, Tree};
 use dc_base::NoMemory;
+use dc_topology::dl_status;
 use esc_regs::{ClockKind, DlStatus, RegFile};
 use local_clock::LocalClock;
+use loss_list::LossList;
 use osc_clock::Osc;
 use segment_file::{Segment, SlaveRow};
-use loss_list::LossList;
 use std::alloc::Global;
 use sync_units::EdgeList;
-use dc_topology::dl_status;
 use wrap_time::{ClockWord, T32, T64};
 
 /// How many ticks there are to a correction at the start: a 64th of the speed counter's start, 0x1000.
@@ -44,23 +44,17 @@ pub(crate) fn slaves(alloc: Global, segment: &Segment) -> Result<Vec<Slave>, NoM
 fn push(slaves: &mut Vec<Slave>, slave: Slave) -> Result<(), NoMemory>
     ensures { OnOk result (slaves.new.items ≡ slaves.old.items ++ slave ∷ []) }
 {
-    match slaves.push(slave) {
-        Ok(()) => Ok(()),
-        Err(_) => Err(NoMemory),
-    }
+    slaves.push(slave)?;
+    Ok(())
 }
 
 /// The frames that are lost.
 pub(crate) fn losses(alloc: Global, segment: &Segment) -> Result<LossList, NoMemory>
     ensures { IfOk result (λ losses. losses ≡ segment.now.losses) }
 {
-    let Ok(mut losses) = LossList::new(alloc) else {
-        return Err(NoMemory);
-    };
+    let mut losses = LossList::new(alloc)?;
     for loss in segment.losses() {
-        if losses.push(*loss).is_err() {
-            return Err(NoMemory);
-        }
+        losses.push(*loss)?;
     }
     Ok(losses)
 }

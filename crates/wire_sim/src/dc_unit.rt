@@ -76,7 +76,10 @@ impl<W: ClockWord> DcUnit<W> {
     pub(crate) fn arm(&mut self, start: W, cycle: u32, sync1: Option<u32>)
         requires cycle { 1000 ≤ cycle }
         requires sync1 { IfSome sync1 (λ time. (1 ≤ time) × (time < cycle)) }
-        ensures { self.new ≡ record self.old { unit = Some (armed_by W.WIDTH (W.number start) cycle sync1); edges = empty_list self.old.edges.keep } }
+        ensures { self.new ≡ record self.old {
+          unit = Some (armed_by W.WIDTH (W.number start) cycle sync1);
+          edges = empty_list self.old.edges.keep;
+        } }
     {
         self.sync.arm(start, cycle, sync1);
         self.edges.clear();

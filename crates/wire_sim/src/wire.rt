@@ -17,8 +17,8 @@ use dc_base::NoMemory;
 use ecat_frame::{Command, Frame};
 use ecat_link::{Link, Lost};
 use esc_regs::Access;
-use segment_file::Segment;
 use loss_list::{LossList, Phase};
+use segment_file::Segment;
 use std::alloc::Global;
 use std::marker::Model;
 use sync_units::Edge;
@@ -51,7 +51,17 @@ impl Model for Wire {
 
     ghost Value = { SegmentState };
 
-    ghost view = { λ a. record { slaves = a.slaves.items; round_trip = a.round_trip; losses = a.losses; commission = a.commission; drift = a.drift; sent = a.sent; lost = a.lost; last = a.last; free = a.free } };
+    ghost view = { λ a. record {
+      slaves = a.slaves.items;
+      round_trip = a.round_trip;
+      losses = a.losses;
+      commission = a.commission;
+      drift = a.drift;
+      sent = a.sent;
+      lost = a.lost;
+      last = a.last;
+      free = a.free;
+    } };
 
     ghost invariant = { λ a. IsInTime a.round_trip a.commission a.drift a.sent a.last a.free };
 }

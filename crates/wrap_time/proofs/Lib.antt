@@ -1,3 +1,4 @@
 mod Near
 mod Cuts
+mod Extending
 pub mod Exported

@@ -42,7 +42,8 @@ pub trait ClockWord: Copy {
     /// difference of the times as long as they are less than half the range apart.
     fn diff(self, other: Self) -> i64
         ensures is { result ≡ word_difference WIDTH (number self) (number other) }
-        ensures near { (u v : ℕ) → AreNear WIDTH u v → number self ≡ u % 2 ^ WIDTH → number other ≡ v % 2 ^ WIDTH → result ≡ pos u -ℤ pos v };
+        ensures near { (u v : ℕ) → AreNear WIDTH u v → number self ≡ u % 2 ^ WIDTH → number other ≡ v % 2 ^ WIDTH
+            → result ≡ pos u -ℤ pos v };
 
     /// The low 32 bits, which is what the receive time of a port has.
     fn low(self) -> T32

@@ -4,6 +4,7 @@ ghost use Rattle.std.specs.Prelude.{◌≡◌, ℕ, ◌+◌, ◌-◌, ◌%◌, �
 ghost use Rattle.wrap_time.specs.WordDifference.{word_difference};
 ghost use Rattle.wrap_time.specs.WordLess.{word_less};
 ghost use Rattle.wrap_time.specs.NearNumbers.{AreNear};
+ghost use Rattle.wrap_time.specs.Extended.{extended};
 
 /// The words of whole numbers that are less than half of the range apart have the difference of the
 /// numbers, at every width: so a clock may wrap between two readings, and their difference stands.
@@ -44,4 +45,10 @@ pub fn latched_differences()
 /// later time z that of e and the time since.
 pub fn offsets()
     ensures { (w e u z z0 : ℕ) → z0 ≤ z → z0 % 2 ^ w ≡ u → (z % 2 ^ w + word_less w e u) % 2 ^ w ≡ (e + (z - z0)) % 2 ^ w }
+{}
+
+/// The low half of a time becomes that time again, as a word of 64 bits, beside one that is less than
+/// 2^31 from it.
+pub fn times_extended()
+    ensures { (u expected : ℕ) → AreNear 32 u expected → extended (u % 2 ^ 32) expected ≡ u % 2 ^ 64 }
 {}

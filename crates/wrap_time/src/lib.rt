@@ -6,7 +6,7 @@
 //! either may have wrapped; they have a signed difference, which is that of the times behind them
 //! wherever those are less than half the range apart ([`near_numbers`]). Sums and differences of words are the
 //! words of the sums and differences of times ([`cuts_of_sums`], [`cuts_of_differences`]). [`extend`] makes a low half
-//! a time of 64 bits again, by a time that is expected near it.
+//! a time of 64 bits again, by a time that is expected near it ([`times_extended`]).
 //!
 //! Contracts see a word as its number (`specs/WordDifference.antt`, `specs/Extended.antt`).
 #![tactic(auto)]
@@ -21,7 +21,7 @@ pub use clock_word::ClockWord;
 pub use extension::extend;
 pub use laws::{
     cuts_of_cuts, cuts_of_differences, cuts_of_sums, latched_differences, near_numbers, offsets,
-    subtracted_and_back,
+    subtracted_and_back, times_extended,
 };
 pub use word32::T32;
 pub use word64::T64;

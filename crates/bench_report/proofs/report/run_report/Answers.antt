@@ -9,7 +9,7 @@ summary-requires-clause-delays c = run_delays c.args.segment.now c.args.bench.no
 pub returns-then-with_rows : goal.returns-then-with_rows
 returns-then-with_rows c =
     IfOk-weaker c.edges_csv_behind.result _ _
-    (λ all is. with_rows c.args.segment.now c.args.bench.now c.args.with_rows c.in-Ok.edges.items c.in_ok-text.text.items all.items c.if-with_rows.true c.in-Ok.ensures.told
+    (λ all is. with_rows c.args.segment.now c.args.bench.now c.args.with_rows c.in_ok-edges.edges.items c.in_ok-text.text.items all.items c.if-with_rows.true c.in_ok-edges.ensures.told
     c.in_ok-text.ensures is)
     c.edges_csv_behind.ensures
 

@@ -5,12 +5,12 @@ use Rattle.dc_top.proofs.Behind.{only_lost}
 use Rattle.dc_top.proofs.Exported.{reported, told_lost}
 use Rattle.dc_top.proofs.runs.drive_bench.Goals as goal
 
-pub returns-in_ok-text_of-in-Ok-clause-written : goal.returns-in_ok-text_of-in-Ok-clause-written
-returns-in_ok-text_of-in-Ok-clause-written c =
+pub returns-in_ok-report_text-in-Ok-clause-written : goal.returns-in_ok-report_text-in-Ok-clause-written
+returns-in_ok-report_text-in-Ok-clause-written c =
     let r = c.args.report in
     let s = c.args.segment.now in
     let b = c.make_run.new.bench in
-    subst (λ (bs : List ℕ). IsReportOf r s bs b) (sym c.in_ok-text_of-in-Ok.ensures) (reported r s b c.requires.new.legal c.in-Ok.ensures)
+    subst (λ (bs : List ℕ). IsReportOf r s bs b) (sym c.in_ok-report_text-in-Ok.ensures) (reported r s b c.requires.new.legal c.in-Ok.ensures)
 
 pub step_of-requires : goal.step_of-requires
 step_of-requires c = only_lost c.args.report c.args.segment.now c.make_run.new.bench c.in-Err.error c.requires.new.legal c.in-Err.ensures

@@ -1,5 +1,6 @@
 use Rattle.std.proofs.Common.{sym}
-use Rattle.master_steps.proofs.Shapes.{alike, replied, counted}
+use Rattle.master_frames.proofs.Exported.{alike}
+use Rattle.master_steps.proofs.Shapes.{replied, counted}
 use Rattle.master_steps.proofs.drift.judge_drift.Goals as goal
 use Rattle.master_script.specs.declared.step.Step.TheVariants.{Drift}
 

@@ -1,8 +1,9 @@
-use Rattle.master_steps.proofs.Shapes.{alike, replied, counted}
+use Rattle.master_frames.proofs.Exported.{alike}
+use Rattle.master_steps.proofs.Shapes.{replied, counted}
 use Rattle.master_steps.proofs.replies.judge.Goals as goal
 use Rattle.std.proofs.Common.{ℕ, List, sym, ◌∙◌, ap}
 use Rattle.ecat_frame.specs.FrameGrammar.{FrameValue}
-use Rattle.master_steps.specs.Asking.{sizes}
+use Rattle.master_frames.specs.Sizes.{sizes}
 use Rattle.master_script.specs.Judged.{counters, miscounted}
 
 pub returns-in-Some-clause-is : goal.returns-in-Some-clause-is

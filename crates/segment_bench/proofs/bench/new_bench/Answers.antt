@@ -6,7 +6,7 @@ use Rattle.segment_bench.proofs.Configured.{config_legal}
 use Rattle.segment_bench.proofs.bench.new_bench.Goals as goal
 
 pub new-requires : goal.new-requires
-new-requires c = subst IsConfig (sym c.in-Ok.ensures.is) (config_legal c.args.segment.now c.config.ensures.legal)
+new-requires c = subst IsConfig (sym c.in_ok-config.ensures.is) (config_legal c.args.segment.now c.config.ensures.legal)
 
 pub new-requires-2-clause-wire : goal.new-requires-2-clause-wire
 new-requires-2-clause-wire c = unsent c.args.segment.now c.in_ok-wire.wire c.in_ok-wire.ensures
@@ -15,5 +15,5 @@ pub returns-clause-new : goal.returns-clause-new
 returns-clause-new c = rw c.new-2.ensures (record {
   legal = c.config.ensures.legal;
   wire = c.in_ok-wire.ensures;
-  master = c.in_ok-master.ensures.fresh ∙ ap (λ cfg. kept_after cfg None []) (c.in_ok-master.ensures.config ∙ c.in-Ok.ensures.is);
+  master = c.in_ok-master.ensures.fresh ∙ ap (λ cfg. kept_after cfg None []) (c.in_ok-master.ensures.config ∙ c.in_ok-config.ensures.is);
 })

@@ -3,5 +3,5 @@ use Rattle.segment_file.specs.Told.{IsSegmentText}
 use Rattle.segment_file.specs.Written.{segment_text}
 use Rattle.segment_text.proofs.write.write_segment.Goals as goal
 
-pub returns-in-Ok-clause-read : goal.returns-in-Ok-clause-read
-returns-in-Ok-clause-read c = subst (λ bytes. IsSegmentText bytes c.args.segment.now) (sym (c.in-Ok.ensures.is ∙ ap (λ bytes. bytes ++ segment_text c.args.segment.now) c.new-text.ensures.items)) c.in-Ok.ensures.read
+pub returns-clause-read : goal.returns-clause-read
+returns-clause-read c = subst (λ bytes. IsSegmentText bytes c.args.segment.now) (sym (c.in_ok-push_segment.ensures.is ∙ ap (λ bytes. bytes ++ segment_text c.args.segment.now) c.new-text.ensures.items)) c.in_ok-push_segment.ensures.read

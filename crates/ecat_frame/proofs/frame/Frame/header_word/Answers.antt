@@ -1,4 +1,4 @@
-use Rattle.std.proofs.Common.{◌-◌, ◌∙◌}
+use Rattle.std.proofs.Common.{◌∙◌}
 use Rattle.ecat_frame.proofs.Kept.{header_in-kept, keeps_value}
 use Rattle.ecat_frame.proofs.frame.Frame.header_word.Goals as goal
 

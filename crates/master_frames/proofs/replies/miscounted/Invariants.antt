@@ -1,5 +1,5 @@
 use Rattle.std.proofs.Common.{◌≡◌, drop}
-use Rattle.master_steps.proofs.replies.miscounted.Given as goal
+use Rattle.master_frames.proofs.replies.miscounted.Given as goal
 use Rattle.master_script.specs.Judged.{counters, miscounted}
 
 abbrev pub invariant-loop-k : goal.invariant-loop-k

@@ -3,18 +3,18 @@ use Rattle.std.specs.Prelude.{ℕ}
 
 -- `room` is how much padding may follow the datagrams, and `left` what is left of the header's length
 -- from the datagram's first byte on.
-pub data Place : Type 0 where
+pub data Part : Type 0 where
   -- behind so many of the 14 bytes before the header word
-  Front : (at : ℕ) → Place
+  Front : (at : ℕ) → Part
   -- the first byte of the header word, and its second, behind the first
-  HeaderLow : Place
-  HeaderHigh : (low : ℕ) → Place
+  HeaderLow : Part
+  HeaderHigh : (low : ℕ) → Part
   -- behind so many of the six bytes before a datagram's length word
-  Head : (room left at : ℕ) → Place
+  Head : (room left at : ℕ) → Part
   -- the first byte of the length word, and its second, behind the first
-  LengthLow : (room left : ℕ) → Place
-  LengthHigh : (room left low : ℕ) → Place
+  LengthLow : (room left : ℕ) → Part
+  LengthHigh : (room left low : ℕ) → Part
   -- in the last `body` bytes of a datagram, with `left` behind it
-  Body : (room left body : ℕ) → Place
+  Body : (room left body : ℕ) → Part
   -- behind the datagrams
-  Padding : (room : ℕ) → Place
+  Padding : (room : ℕ) → Part

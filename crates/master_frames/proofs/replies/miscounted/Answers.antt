@@ -1,7 +1,7 @@
 use Rattle.std.proofs.Common.{sym, ◌∙◌, arith}
 use Rattle.ecat_frame.specs.Reading.{seen}
-use Rattle.master_steps.proofs.Miscounts.{next_same, next_apart, at_end, wkc_here}
-use Rattle.master_steps.proofs.replies.miscounted.Goals as goal
+use Rattle.master_frames.proofs.Miscounts.{next_same, next_apart, at_end, wkc_here}
+use Rattle.master_frames.proofs.replies.miscounted.Goals as goal
 use Rattle.master_script.specs.Judged.{counters}
 
 pub returns-then-wkc-expected : goal.returns-then-wkc-expected

@@ -1,0 +1,4 @@
+mod Miscounts
+mod Shapes
+mod Told
+pub mod Exported
