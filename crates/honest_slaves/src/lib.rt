@@ -12,10 +12,10 @@
 //! **Who answers.** A broadcast, and FRMW, counts each slave that does not refuse it ([`laws::broadcasts_count`]); a
 //! read or a write by station address is answered by one slave ([`laws::stations_answer`]; ETG.1000.4, section 5.4).
 //!
-//! **The replies to the script.** Every frame of the script is mindful ([`laws::frames_are_mindful`]). So it comes
-//! back with the working counters that the master expects ([`laws::counters_are_expected`]), and Identify brings
-//! what the slave is ([`laws::slaves_are_identified`]). Such a reply is not refused
-//! ([`laws::replies_are_accepted`]). Up to here no file and no run is known.
+//! **The replies to the script.** Every frame of the script is mindful ([`laws::frames_are_mindful`]). So over slaves
+//! at their positions it comes back with the working counters that the master expects
+//! ([`laws::counters_are_expected`]), and Identify brings what the slave is ([`laws::slaves_are_identified`]). Such a
+//! reply is not refused ([`laws::replies_are_accepted`]). Up to here no file and no run is known.
 //!
 //! **The run of a legal file.** Its slaves begin at their positions, and what they tell of themselves is judged well
 //! ([`laws::slaves_begin`]); those that measure, and the clocks, are the file's ([`laws::kinds_are_told`]). So a
