@@ -1,6 +1,5 @@
 mod Parts
 mod Times
-mod Judging
 mod Planned
 mod Driving
 mod Calls

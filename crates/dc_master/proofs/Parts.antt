@@ -7,7 +7,7 @@ use Rattle.ecat_link.proofs.Exported.{serves_then, serves_weaker}
 use Rattle.dc_master.specs.Places.{HasRefused}
 use Rattle.master_steps.specs.Asking.{AfterStep, Asks, IsRefused, call_of, phase_of}
 use Rattle.master_steps.specs.declared.exchange.Counters.{Counters}
-use Rattle.master_steps.proofs.Exported.{left, left_yes, left_no}
+use Rattle.master_frames.proofs.Exported.{left, left_yes, left_no}
 use Rattle.master_script.specs.Config.{ConfigValue}
 use Rattle.master_script.specs.Kept.{has_delays, is_times}
 use Rattle.master_script.specs.Progress.{Phase, Progress}

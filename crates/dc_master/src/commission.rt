@@ -18,9 +18,10 @@ ghost use Rattle.master_script.specs.declared.step.Refusal.TheVariants.{Lost};
 ghost use Rattle.master_script.specs.declared.step.Step.{Step as AnyStep};
 ghost use Rattle.master_script.specs.declared.step.Step.TheVariants.{Set, Times};
 
-use crate::judgement::{judge_slaves, measure_delays};
+use crate::measured::measure_delays;
 use dc_topology::Shape;
 use ecat_link::Link;
+use master_frames::judge_slaves;
 use master_script::{Refusal, Step};
 use master_steps::{Config, Notes, take};
 
@@ -55,7 +56,7 @@ pub(crate) fn commission<L: Link>(
     if let Err(refusal) = measure(config, notes, link) {
         return Err(refusal);
     }
-    measure_delays(config, &notes.learned, &shape, &mut notes.delays);
+    measure_delays(&config.kinds, &notes.learned, &shape, &mut notes.delays);
     set_clocks(config, notes, link)
 }
 

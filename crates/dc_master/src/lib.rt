@@ -10,8 +10,8 @@
 
 mod commission;
 mod drift;
-mod judgement;
 mod master;
+mod measured;
 
 pub use master::Master;
 pub use master_script::{MasterError, Refusal, Stage, Step, SyncPlan};

@@ -1,4 +1,6 @@
 mod Miscounts
 mod Shapes
 mod Told
+mod Left
+mod Judging
 pub mod Exported

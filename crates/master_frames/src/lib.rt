@@ -6,6 +6,7 @@
 #![tactic(auto)]
 
 mod frames;
+mod judgement;
 mod replies;
 mod slave_words;
 
@@ -13,5 +14,6 @@ pub use frames::{
     arm_frame, count_frame, drift_frame, identify_frame, latch_frame, rate_frame, set_frame,
     times_frame,
 };
+pub use judgement::{clocks, judge_slaves, measuring};
 pub use replies::{identified_from, latch_in, low_in, miscounted};
 pub use slave_words::SlaveWords;

@@ -1,7 +1,5 @@
 -- What the crates above may cite of these proofs.
 
--- The positions that are left of those that a flag marks.
-pub use Rattle.master_steps.proofs.Left.{left, left_yes, left_no, left_end, flag_at}
 -- A step that is sent up to three times.
 pub use Rattle.master_steps.proofs.Trying.{sent_of}
 -- A reply is never refused as lost.

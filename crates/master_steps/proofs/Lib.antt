@@ -1,4 +1,3 @@
-mod Left
 mod Trying
 mod Shapes
 mod Received

@@ -4,9 +4,9 @@ use Rattle.std.proofs.Common.{Ok, Err, arith}
 use Rattle.ecat_link.proofs.Exported.{serves_then, serves_weaker}
 use Rattle.master_steps.specs.ConfigRange.{value_of}
 use Rattle.master_steps.specs.Known.{words_of}
-use Rattle.dc_master.proofs.Judging.{never_judged}
+use Rattle.master_frames.proofs.Exported.{never_judged}
 use Rattle.dc_master.proofs.Parts.{at_todo}
-use Rattle.dc_master.proofs.Planned.{planned_ok}
+use Rattle.dc_master.proofs.Planned.{planned_ok, ready, ready_still}
 use Rattle.dc_master.proofs.commission.commission.Goals as goal
 use Rattle.master_script.specs.Progress.{Commissioning}
 use Rattle.master_script.specs.Slaves.{clocks, judgement}
@@ -43,6 +43,22 @@ returns-clause-serves g c =
     c.in_default-measure.ensures.serves)
     (serves_weaker g.L.Link.step _ _ _ _ _ _ _ (λ es b. at_todo cfg Commissioning m.counters v (map Set (clocks w.slaves)) (map Set (clocks v.slaves)) es (ap (λ ss. map Set (clocks ss)) (sym c.measure.ensures.slaves)) b)
     (λ es b. b) c.set_clocks.ensures.serves)
+
+pub set_clocks-requires-clause-ready : goal.set_clocks-requires-clause-ready
+set_clocks-requires-clause-ready g c =
+    let slaves = c.deref.ensures.0 in
+    ready (value_of c.args.config.now) (words_of c.measure.new.notes.learned) (words_of c.identify_slaves.new.notes.learned).slaves c.in-Ok.reference c.measure_delays.new.out.items
+    c.requires.config.few c.in_default.ensures.slaves c.measure.ensures.slaves c.measure.ensures.reference
+    (rw slaves at c.in-Ok.ensures.within) (rw slaves at c.in-Ok.ensures.clocks) (rw c.deref-2.ensures.value at c.measure_delays.ensures)
+
+pub returns-clause-ready : goal.returns-clause-ready
+returns-clause-ready g c =
+    let slaves = c.deref.ensures.0 in
+    ready_still (value_of c.args.config.now) (words_of c.measure.new.notes.learned) (words_of c.set_clocks.new.notes.learned) c.measure_delays.new.out.items c.set_clocks.new.notes.delays.items c.set_clocks.result
+    c.set_clocks.ensures.words c.set_clocks.ensures.delays
+    (ready (value_of c.args.config.now) (words_of c.measure.new.notes.learned) (words_of c.identify_slaves.new.notes.learned).slaves c.in-Ok.reference c.measure_delays.new.out.items
+    c.requires.config.few c.in_default.ensures.slaves c.measure.ensures.slaves c.measure.ensures.reference
+    (rw slaves at c.in-Ok.ensures.within) (rw slaves at c.in-Ok.ensures.clocks) (rw c.deref-2.ensures.value at c.measure_delays.ensures))
 
 pub returns-in-Err-clause-judged : goal.returns-in-Err-clause-judged
 returns-in-Err-clause-judged g c r a = absurd (let all = a.all in omega (arith, all, c.in-Err.ensures.fewer))

@@ -7,7 +7,8 @@ use Rattle.ecat_link.proofs.Exported.{serves_none, serves_weaker}
 use Rattle.dc_bounds.specs.Weight.{flag}
 use Rattle.dc_delay.specs.Latched.{measures}
 use Rattle.dc_delay.specs.declared.latch.Latch.{Latch}
-use Rattle.master_steps.proofs.Exported.{counted_none, counted_then, left, left_end}
+use Rattle.master_frames.proofs.Exported.{left, left_end}
+use Rattle.master_steps.proofs.Exported.{counted_none, counted_then}
 use Rattle.master_steps.specs.ConfigRange.{value_of}
 use Rattle.master_steps.specs.Known.{words_of}
 use Rattle.dc_master.proofs.Parts.{at_todo, steps_no, steps_yes, then_err, then_ok}

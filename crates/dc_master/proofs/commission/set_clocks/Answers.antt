@@ -4,7 +4,8 @@ use Rattle.master_script.specs.Script.{Commission}
 use Rattle.std.specs.List.{range_with_len}
 use Rattle.ecat_link.proofs.Exported.{serves_none, serves_weaker}
 use Rattle.dc_bounds.specs.Weight.{flag}
-use Rattle.master_steps.proofs.Exported.{counted_none, counted_then, left, left_end, left_no, left_yes}
+use Rattle.master_frames.proofs.Exported.{left, left_end, left_no, left_yes}
+use Rattle.master_steps.proofs.Exported.{counted_none, counted_then}
 use Rattle.master_steps.specs.ConfigRange.{value_of}
 use Rattle.master_steps.specs.Known.{words_of}
 use Rattle.dc_master.proofs.Parts.{at_todo, then_err, then_ok}

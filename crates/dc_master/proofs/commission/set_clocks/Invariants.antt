@@ -5,7 +5,7 @@ use Rattle.master_steps.specs.ConfigRange.{value_of}
 use Rattle.master_steps.specs.Known.{words_of}
 use Rattle.dc_master.specs.Places.{HasSent}
 use Rattle.master_steps.specs.Asking.{Asks, IsCounted}
-use Rattle.master_steps.proofs.Exported.{left}
+use Rattle.master_frames.proofs.Exported.{left}
 use Rattle.dc_master.proofs.commission.set_clocks.Given as goal
 use Rattle.master_script.specs.Progress.{Commissioning}
 use Rattle.master_script.specs.Script.{Commission, script}

@@ -1,6 +1,6 @@
 use Rattle.std.proofs.Common.{◌≡◌, ◌+◌, ◌≤◌, length, map}
 use Rattle.dc_bounds.specs.Weight.{flag}
-use Rattle.master_steps.proofs.Left.{left}
+use Rattle.master_frames.proofs.Exported.{left}
 use Rattle.master_steps.proofs.learned.Learned.clocks.Given as goal
 use Rattle.master_script.specs.Slaves.{is_clock, clocks}
 

@@ -3,8 +3,8 @@ use Rattle.std.specs.List.{find}
 use Rattle.std.proofs.lemmas.List.{length-map}
 use Rattle.dc_bounds.specs.Weight.{flag}
 use Rattle.dc_delay.specs.ShapeRows.{positions}
-use Rattle.dc_master.proofs.Judging.{accepted, same_ok, some_clock, some_measuring}
-use Rattle.dc_master.proofs.judgement.judge_clocks.Goals as goal
+use Rattle.master_frames.proofs.Judging.{accepted, same_ok, some_clock, some_measuring}
+use Rattle.master_frames.proofs.judgement.judge_clocks.Goals as goal
 use Rattle.master_script.specs.Slaves.{is_clock}
 
 pub returns-in-Some-clause-is : goal.returns-in-Some-clause-is

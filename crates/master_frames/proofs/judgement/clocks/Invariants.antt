@@ -1,5 +1,5 @@
 use Rattle.std.proofs.Common.{◌≡◌, length, map, take}
-use Rattle.dc_master.proofs.judgement.clocks.Given as goal
+use Rattle.master_frames.proofs.judgement.clocks.Given as goal
 use Rattle.master_script.specs.Slaves.{is_clock}
 
 abbrev pub invariant-loop-slave : goal.invariant-loop-slave

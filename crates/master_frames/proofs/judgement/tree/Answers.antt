@@ -1,7 +1,7 @@
 use Rattle.std.proofs.Common.{◌≡◌, ◌∙◌, List, ℕ, Ok, Err, length, ap}
 use Rattle.std.proofs.lemmas.List.{length-map}
-use Rattle.dc_master.proofs.Judging.{if_err, listed, listed_length, on_ok, unlisted}
-use Rattle.dc_master.proofs.judgement.tree.Goals as goal
+use Rattle.master_frames.proofs.Judging.{if_err, listed, listed_length, on_ok, unlisted}
+use Rattle.master_frames.proofs.judgement.tree.Goals as goal
 use Rattle.master_script.specs.Slaves.{SlaveWords, tree_told}
 use Rattle.master_script.proofs.Exported.{tree_listed}
 

@@ -1,7 +1,7 @@
 use Rattle.std.proofs.Common.{◌∙◌, length}
 use Rattle.dc_bounds.specs.Weight.{flag}
 use Rattle.dc_delay.proofs.Exported.{found_later}
-use Rattle.dc_master.proofs.judgement.first.Goals as goal
+use Rattle.master_frames.proofs.judgement.first.Goals as goal
 
 pub loop-position-preserved : goal.loop-position-preserved
 loop-position-preserved c =

@@ -13,14 +13,14 @@ use Rattle.dc_delay.specs.declared.error.DelayError.{DelayError}
 use Rattle.dc_delay.specs.declared.error.DelayError.TheVariants.{NoReference as NoClock, Unmeasurable as NotMeasured}
 use Rattle.master_script.specs.ListedTree.{tree_of}
 use Rattle.master_script.specs.Slaves.{SlaveWords, clocks, is_clock, is_measuring, judged_clocks, judged_tree, judgement, measuring, tree_told}
-use Rattle.master_script.specs.Config.{ConfigValue}
-use Rattle.master_script.specs.Words.{Words, delays_of}
+use Rattle.dc_delay.specs.declared.kind.Kind.{Kind}
+use Rattle.master_script.specs.Words.{Words, delays_by}
 use Rattle.dc_delay.specs.Latched.{laps, measures}
 use Rattle.dc_delay.specs.MeasuredDelay.{delay_list}
 use Rattle.master_script.specs.declared.step.Refusal.{Refusal}
 use Rattle.master_script.specs.declared.step.Refusal.TheVariants.{Lost, NoReference, Unmeasurable}
 use Rattle.master_script.specs.declared.step.Step.{Step}
-use Rattle.master_steps.proofs.Exported.{flag_at}
+use Rattle.master_frames.proofs.Left.{flag_at}
 use Rattle.master_script.proofs.Exported.{tree_listed, tree_refused}
 
 module _ (ss : List ℕ) (out : List Place) (result : Result (Unit {0}) TopologyError)
@@ -131,10 +131,10 @@ pub measured : (P : Type 0) (hung : List Place) (measures timed : ℕ → Bool) 
 measured P hung measures timed (Ok u) p h n = p
 measured P hung measures timed (Err e) p h n = absurd (n e h)
 
-pub delays_told : (cfg : ConfigValue) (w : Words) (hung : List Place) → tree_told w.slaves ≡ Ok hung
-    → delay_list (rows_of hung cfg.kinds) (measures w.latches) (flag (map is_clock w.slaves)) (laps w.latches) (positions (length hung)) ≡ delays_of cfg w
-unfolding delays_of
-delays_told cfg w hung t = rw t refl
+pub delays_told : (kinds : List Kind) (w : Words) (hung : List Place) → tree_told w.slaves ≡ Ok hung
+    → delay_list (rows_of hung kinds) (measures w.latches) (flag (map is_clock w.slaves)) (laps w.latches) (positions (length hung)) ≡ delays_by kinds w
+unfolding delays_by
+delays_told kinds w hung t = rw t refl
 
 -- judged slaves are never refused as lost
 never_clocks : (t u : Option ℕ) (q : Step) → judged_clocks t u ≡ Err (Lost q) → ⊥

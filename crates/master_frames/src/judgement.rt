@@ -1,26 +1,21 @@
-// What the words of the slaves say of the segment: its tree, the reference, and the delays.
-ghost use Rattle.std.specs.Prelude.{◌≡◌, ◌<◌, ◌≤◌, ℕ, length, map, Ok, Err, IfErr, IfOk, IfSome, OnOk};
+// What the words of the slaves say of the segment: its tree and the reference.
+ghost use Rattle.std.specs.Prelude.{◌≡◌, ◌<◌, ◌≤◌, length, map, Ok, Err, IfErr, IfOk, IfSome, OnOk};
 ghost use Rattle.std.specs.List.{find};
 ghost use Rattle.dc_bounds.specs.Weight.{flag};
 ghost use Rattle.dc_delay.specs.Refusals.{first_timed, first_unmeasurable};
 ghost use Rattle.dc_delay.specs.ShapeRows.{positions};
-ghost use Rattle.dc_delay.specs.Latched.{measures};
-ghost use Rattle.master_steps.specs.ConfigRange.{value_of};
-ghost use Rattle.master_steps.specs.Known.{words_of};
-ghost use Rattle.master_script.specs.Config.{slaves};
 ghost use Rattle.master_script.specs.Slaves.{clocks, is_clock, is_measuring, judged_clocks, judgement, measuring, tree_told};
-ghost use Rattle.master_script.specs.Words.{delays_of};
 
+use crate::slave_words::SlaveWords;
 use arrayvec::ArrayVec;
-use dc_delay::{DelayError, DelayList, delays, judge};
+use dc_delay::{DelayError, judge};
 use dc_topology::{Shape, TopologyError, topology};
-use master_frames::SlaveWords;
 use master_script::Refusal;
-use master_steps::{Config, Learned};
 
-/// The position of the reference, which is the first clock. `shape` becomes the tree of the slaves.
+/// The position of the reference, which is the first clock. `shape` becomes the tree of the slaves. After a refusal it says
+/// nothing of `shape`.
 #[tactic(auto, unfolding(master_script::specs::Slaves::judgement))]
-pub(crate) fn judge_slaves(slaves: &[SlaveWords], shape: &mut Shape) -> Result<u16, Refusal>
+pub fn judge_slaves(slaves: &[SlaveWords], shape: &mut Shape) -> Result<u16, Refusal>
     requires { length slaves.now ≤ 256 }
     ensures is { result ≡ judgement slaves.now }
     ensures tree { OnOk result (tree_told slaves.now ≡ Ok shape.new) }
@@ -65,26 +60,6 @@ fn judge_clocks(slaves: &[SlaveWords], shape: &Shape) -> Result<u16, Refusal>
     }
 }
 
-/// Computes the delays from the receive times of all slaves that measure.
-pub(crate) fn measure_delays(config: &Config, learned: &Learned, shape: &Shape, out: &mut DelayList)
-    requires whole { length shape.now ≡ length (words_of learned.now).slaves }
-    requires kinds { slaves (value_of config.now) ≡ length (words_of learned.now).slaves }
-    requires latches { length (words_of learned.now).latches ≡ length (words_of learned.now).slaves }
-    requires few { length (words_of learned.now).slaves ≤ 256 }
-    requires tree { tree_told (words_of learned.now).slaves ≡ Ok shape.now }
-    requires judged { (r : ℕ) × (judgement (words_of learned.now).slaves ≡ Ok r) }
-    requires latched { (p : ℕ) → measures (words_of learned.now).latches p ≡ flag (map is_measuring (words_of learned.now).slaves) p }
-    ensures { out.new.items ≡ delays_of (value_of config.now) (words_of learned.now) }
-{
-    let _ = delays(
-        shape,
-        &config.kinds,
-        &learned.latches,
-        &clocks(&learned.slaves),
-        out,
-    );
-}
-
 // The DL status of each slave.
 fn statuses(slaves: &[SlaveWords]) -> ArrayVec<u16, 256>
     requires { length slaves.now ≤ 256 }
@@ -97,8 +72,8 @@ fn statuses(slaves: &[SlaveWords]) -> ArrayVec<u16, 256>
     statuses
 }
 
-// Which slaves measure.
-fn measuring(slaves: &[SlaveWords]) -> ArrayVec<bool, 256>
+/// Which slaves measure, in frame order. Where they hang it does not say.
+pub fn measuring(slaves: &[SlaveWords]) -> ArrayVec<bool, 256>
     requires { length slaves.now ≤ 256 }
     ensures { result.items ≡ map is_measuring slaves.now }
 {
@@ -109,8 +84,8 @@ fn measuring(slaves: &[SlaveWords]) -> ArrayVec<bool, 256>
     measuring
 }
 
-// Which slaves are clocks.
-fn clocks(slaves: &[SlaveWords]) -> ArrayVec<bool, 256>
+/// Which slaves are clocks, in frame order. Where they hang it does not say.
+pub fn clocks(slaves: &[SlaveWords]) -> ArrayVec<bool, 256>
     requires { length slaves.now ≤ 256 }
     ensures { result.items ≡ map is_clock slaves.now }
 {
