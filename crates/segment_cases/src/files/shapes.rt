@@ -1,9 +1,9 @@
 use crate::files::UNREAD;
 use crate::files::refusals::shape_told;
 use esc_regs::ClockKind;
+use loss_list::{LossRow, Phase};
 use osc_clock::RateRow;
 use segment_shape::{Head, Parent, Shape, ShapeRow, read_shape};
-use loss_list::{LossRow, Phase};
 use std::alloc::{AllocError, Global};
 
 /// Writes whether the file has a shape.

@@ -3,9 +3,8 @@ ghost use Rattle.std.specs.Prelude.{◌<◌, length};
 use crate::trees::rows::{refusal_told, tree};
 use crate::words::{Words, place_told, port_number};
 use cable_tree::{Port, Tree, TreeRow};
-use dc_topology::{Shape, TopologyError, topology};
+use dc_topology::{Shape, TopologyError, dl_status, topology};
 use std::alloc::{AllocError, Global};
-use dc_topology::dl_status;
 
 /// The statuses of slaves that hang so, and the tree that is found from them.
 pub(crate) fn statuses_told(
