@@ -3,9 +3,9 @@
 
 check_pages.py
 
-Every crate of crates.txt has a page and a place on the map, and every page of a crate is of one that is listed. Each example on it stands, line for
-line, in the file that is named above it. Each clause that a table of a crate's page names, or that docs/PROVED.md names, stands in that crate's code,
-and so does each call; those that the README names stand in one. Each file that a page names is there, each link leads to a file, and each anchor to a
+Every crate of crates.txt has a page and a row on the map, which names the crates that it stands on as crates.txt does, and every page of a crate is of
+one that is listed. Each example on it is, line for line, in the file that is named above it. Each clause that a table of a crate's page names, or that
+docs/PROVED.md names, is in that crate's code, and so is each call; those that the README names are in one. Each file that a page names is there, each link leads to a file, and each anchor to a
 heading. Whether a clause says what the page says of it, a reader has to judge.
 """
 import pathlib, re, sys
@@ -108,6 +108,19 @@ def check_links(page, text):
             complain(page, f'no heading is {target}')
 
 
+def check_map(page):
+    """Each row of the map names the crates that crates.txt has for its crate, in that order; a row that ends so names some of them."""
+    lines = dict(re.findall(r'^([a-z_]+):(.*)$', (HERE / 'crates.txt').read_text(), re.M))
+    for head, rows in tables_of(page.read_text()):
+        if head[2:] != ['Stands on']:
+            continue
+        for row in rows:
+            crate, told = names_in(row[0])[0], names_in(row[2])
+            below = [it for it in lines.get(crate, '').split() if it in lines]
+            if told != below and not (row[2].endswith('and those of their definitions') and set(told) <= set(below)):
+                complain(page, f'the row of {crate} does not name what crates.txt does: {" ".join(below)}')
+
+
 def main():
     listed = re.findall(r'^([a-z_]+):', (HERE / 'crates.txt').read_text(), re.M)
     for crate in sorted({*listed, *(it.parent.name for it in HERE.glob('crates/*/src'))}):
@@ -123,6 +136,7 @@ def main():
         check_examples(page, page.read_text())
         if f'`{crate}`' not in (HERE / 'docs/ARCHITECTURE.md').read_text():
             complain(HERE / 'docs/ARCHITECTURE.md', f'{crate} is not on the map')
+    check_map(HERE / 'docs/ARCHITECTURE.md')
     proved = HERE / 'docs/PROVED.md'
     for head, rows in tables_of(proved.read_text() if proved.exists() else ''):
         if head == ['Promise', 'Call', 'Clause', 'Crate']:
