@@ -47,17 +47,15 @@ impl Model for Master {
 }
 
 impl Master {
-    /// A master that has sent nothing. It takes all the memory that it ever needs.
-    pub fn new(alloc: Global, config: Config) -> Result<Master, NoMemory>
+    /// A master that has sent nothing. It keeps the memory of its configuration, and takes none.
+    pub fn new(_alloc: Global, config: Config) -> Result<Master, NoMemory>
         requires { IsConfig (value_of config) }
         ensures fresh { IfOk result (λ m. StandsFor None m []) }
         ensures config { IfOk result (λ m. m.config ≡ value_of config) }
         ensures stage { IfOk result (λ m. m.stage ≡ stage.Fresh) }
         ensures refusal { IfOk result (λ m. m.refusal ≡ None) }
     {
-        let Ok(learned) = Learned::new(alloc, config.kinds.len()) else {
-            return Err(NoMemory);
-        };
+        let learned = Learned::new(config.kinds.len());
         Ok(Master {
             config,
             stage: Stage::Fresh,

@@ -1,4 +1,4 @@
-ghost use Rattle.std.specs.Prelude.{◌≡◌, ◌<◌, ◌≤◌, IfOk, length, map, None, slice_index_or};
+ghost use Rattle.std.specs.Prelude.{◌≡◌, ◌≤◌, length, map, None, replicate, slice_index_or};
 ghost use Rattle.dc_bounds.specs.Weight.{flag};
 ghost use Rattle.master_script.specs.Slaves.{is_clock, is_measuring, clocks, measuring};
 ghost use Rattle.master_script.specs.Words.{reference_of, unit_of, wide_at};
@@ -7,7 +7,6 @@ ghost use Rattle.master_steps.specs.Known.{nothing, words_of};
 use arrayvec::ArrayVec;
 use dc_delay::Latch;
 use master_frames::SlaveWords;
-use std::alloc::{AllocError, Global};
 use wrap_time::{ClockWord, T32};
 
 /// What a master has learned from replies.
@@ -18,7 +17,7 @@ pub struct Learned {
     /// The position of the reference, once the slaves are judged.
     pub reference: Option<u16>,
     /// By position, the receive times that were read.
-    pub latches: Vec<Option<Latch>>,
+    pub latches: ArrayVec<Option<Latch>, 256>,
     /// The number of the sending of the latch frame that came back; 0 before.
     pub latched: u32,
     /// The time of the reference in the last settle frame that came back, in ns.
@@ -26,20 +25,18 @@ pub struct Learned {
 }
 
 impl Learned {
-    /// Nothing is learned yet of so many slaves.
-    // The proof of a list of latches needs a value of the type of their times in sight, though no time is there yet.
-    pub fn new(alloc: Global, slaves: usize) -> Result<Learned, AllocError>
-        ensures { IfOk result (λ l. words_of l ≡ nothing slaves) }
+    /// Nothing is learned yet of so many slaves. It takes no memory.
+    pub fn new(slaves: usize) -> Learned
+        requires { slaves ≤ 256 }
+        ensures { words_of result ≡ nothing slaves }
     {
-        let _time = T32::cut(0);
-        let latches = vec![in alloc; None; slaves]?;
-        Ok(Learned {
+        Learned {
             slaves: ArrayVec::new(),
             reference: None,
-            latches,
+            latches: unread(slaves),
             latched: 0,
             time: None,
-        })
+        }
     }
 
     pub fn reference_or_0(&self) -> u16
@@ -115,4 +112,16 @@ impl Learned {
         }
         count
     }
+}
+
+// So many slaves whose receive times were not read. The proof of a list of latches needs a value of the type of their times in
+// sight, though no time is there yet.
+fn unread(slaves: usize) -> ArrayVec<Option<Latch>, 256>
+    requires { slaves ≤ 256 }
+    ensures { result.items ≡ replicate slaves None }
+{
+    let _time = T32::cut(0);
+    let mut latches = ArrayVec::from([None; 256]);
+    latches.truncate(slaves);
+    latches
 }

@@ -14,7 +14,7 @@ returns c =
     let w = words_of c.args.learned.now in
     let hung = c.args.shape.now in
     let timed : c.deref-3.result.now ≡ map is_clock w.slaves = c.deref-3.ensures.0 ∙ c.clocks.ensures ∙ ap (λ ss. map is_clock ss) c.deref-2.ensures.0 in
-    let latches = c.deref.ensures.value in
+    let latches = c.deref.ensures.0 in
     let flags = flag (map is_clock w.slaves) in
     let list = delay_list (rows_of hung kinds) (measures w.latches) flags (laps w.latches) (positions (length hung)) in
     measured (c.delays.new.out.items ≡ list) hung (measures w.latches) flags c.delays.result (rw (latches, timed) at c.delays.ensures.ok) (rw (latches, timed) at c.delays.ensures.refused)
