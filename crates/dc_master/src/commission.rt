@@ -18,10 +18,9 @@ ghost use Rattle.master_script.specs.declared.step.Refusal.TheVariants.{Lost};
 ghost use Rattle.master_script.specs.declared.step.Step.{Step as AnyStep};
 ghost use Rattle.master_script.specs.declared.step.Step.TheVariants.{Set, Times};
 
-use crate::measured::measure_delays;
 use dc_topology::Shape;
 use ecat_link::Link;
-use master_frames::judge_slaves;
+use master_frames::{judge_slaves, measure_delays};
 use master_script::{Refusal, Step};
 use master_steps::{Config, Notes, take};
 

@@ -11,7 +11,6 @@
 mod commission;
 mod drift;
 mod master;
-mod measured;
 
 pub use master::Master;
 pub use master_script::{MasterError, Refusal, Stage, Step, SyncPlan};

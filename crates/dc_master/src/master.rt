@@ -17,8 +17,9 @@ use crate::drift::{run, settle, settle_frames};
 use arrayvec::ArrayVec;
 use dc_base::NoMemory;
 use ecat_link::Link;
+use master_frames::Learned;
 use master_script::{MasterError, Refusal, Stage};
-use master_steps::{Config, Counters, Learned, Notes, start};
+use master_steps::{Config, Counters, Notes, start};
 use std::alloc::Global;
 use std::marker::Model;
 

@@ -12,10 +12,10 @@ ghost use Rattle.master_steps.specs.ConfigRange.{value_of};
 ghost use Rattle.master_steps.specs.Asking.{AfterTries, Asks, IsCounted, call_of, one_sent, phase_of};
 
 use crate::config::Config;
-use crate::learned::Learned;
 use dc_delay::DelayList;
 use ecat_frame::Frame;
 use ecat_link::{Link, Lost};
+use master_frames::Learned;
 use master_script::Step;
 
 /// How many frames were sent, how many of these were lost, and how many were drift frames.

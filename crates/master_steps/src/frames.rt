@@ -13,12 +13,11 @@ ghost use Rattle.master_script.specs.declared.step.Step.TheVariants.{Set};
 
 use crate::config::Config;
 use crate::exchange::Notes;
-use crate::learned::Learned;
 use crate::start_time::start;
 use ecat_frame::Frame;
 use master_frames::{
-    arm_frame, count_frame, drift_frame, identify_frame, latch_frame, rate_frame, set_frame,
-    times_frame,
+    Learned, arm_frame, count_frame, drift_frame, identify_frame, latch_frame, rate_frame,
+    set_frame, times_frame,
 };
 use master_script::{Step, SyncPlan};
 

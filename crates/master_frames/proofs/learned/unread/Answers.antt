@@ -1,7 +1,7 @@
 use Rattle.std.proofs.Common.{◌∙◌, ap, take, List, Option, None}
 use Rattle.std.proofs.lemmas.List.{take-replicate}
 use Rattle.dc_delay.specs.declared.latch.Latch.{Latch}
-use Rattle.master_steps.proofs.learned.unread.Goals as goal
+use Rattle.master_frames.proofs.learned.unread.Goals as goal
 
 pub returns : goal.returns
 returns c =

@@ -2,11 +2,11 @@ ghost use Rattle.std.specs.Prelude.{◌≡◌, ◌≤◌, length, map, None, rep
 ghost use Rattle.dc_bounds.specs.Weight.{flag};
 ghost use Rattle.master_script.specs.Slaves.{is_clock, is_measuring, clocks, measuring};
 ghost use Rattle.master_script.specs.Words.{reference_of, unit_of, wide_at};
-ghost use Rattle.master_steps.specs.Known.{nothing, words_of};
+ghost use Rattle.master_frames.specs.Known.{nothing, words_of};
 
+use crate::slave_words::SlaveWords;
 use arrayvec::ArrayVec;
 use dc_delay::Latch;
-use master_frames::SlaveWords;
 use wrap_time::{ClockWord, T32};
 
 /// What a master has learned from replies.
@@ -39,14 +39,15 @@ impl Learned {
         }
     }
 
+    /// The position of the reference, 0 where it is not known.
     pub fn reference_or_0(&self) -> u16
         ensures { result ≡ reference_of (words_of self.now) }
     {
         self.reference.unwrap_or(0)
     }
 
-    /// Whether the times of the slave at a position have 64 bits.
-    pub(crate) fn is_wide(&self, position: u16) -> bool
+    /// Whether the times of the slave at a position have 64 bits; not where there is none.
+    pub fn is_wide(&self, position: u16) -> bool
         ensures { result ≡ wide_at (words_of self.now) position }
     {
         match self.slaves.get(usize::from(position)) {
@@ -55,8 +56,8 @@ impl Learned {
         }
     }
 
-    /// The receive time at the processing unit of the slave at a position.
-    pub(crate) fn unit(&self, position: u16) -> u64
+    /// The receive time at the processing unit of the slave at a position, 0 where it was not read. It says nothing of its width.
+    pub fn unit(&self, position: u16) -> u64
         ensures { result ≡ unit_of (slice_index_or (words_of self.now).latches position None) }
     {
         match self.latches.get(usize::from(position)) {
@@ -85,8 +86,8 @@ impl Learned {
         }
     }
 
-    /// N_m, the number of slaves that measure.
-    pub(crate) fn measuring(&self) -> u16
+    /// N_m, the number of slaves that measure, of those that told what they are so far.
+    pub fn measuring(&self) -> u16
         ensures is { result ≡ length (measuring (words_of self.now).slaves) }
         ensures few { result ≤ 256 }
     {
@@ -99,7 +100,7 @@ impl Learned {
         count
     }
 
-    /// N_c, the number of clocks.
+    /// N_c, the number of clocks, of those that told what they are so far.
     pub fn clocks(&self) -> u16
         ensures is { result ≡ length (clocks (words_of self.now).slaves) }
         ensures few { result ≤ 256 }

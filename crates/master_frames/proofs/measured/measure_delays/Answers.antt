@@ -3,9 +3,9 @@ use Rattle.dc_bounds.specs.Weight.{flag}
 use Rattle.dc_delay.specs.Latched.{laps, measures}
 use Rattle.dc_delay.specs.MeasuredDelay.{delay_list}
 use Rattle.dc_delay.specs.ShapeRows.{positions, rows_of}
-use Rattle.master_frames.proofs.Exported.{delays_told, measured, unrefused}
-use Rattle.master_steps.specs.Known.{words_of}
-use Rattle.dc_master.proofs.measured.measure_delays.Goals as goal
+use Rattle.master_frames.proofs.Judging.{delays_told, measured, unrefused}
+use Rattle.master_frames.specs.Known.{words_of}
+use Rattle.master_frames.proofs.measured.measure_delays.Goals as goal
 use Rattle.master_script.specs.Slaves.{is_clock}
 
 pub returns : goal.returns
