@@ -175,7 +175,8 @@ impl Master {
         ensures made { self.old.refusal ≡ None → Makes L.step Settle self.old self.new (L.state link.old) (L.state link.new) result }
         ensures later { L.lost link.old ≤ L.lost link.new }
         ensures counted { RoseBy (self.new.lost - self.old.lost) (L.lost link.old) (L.lost link.new) }
-        ensures lost { (step : _) → result ≡ Err (Refused (Lost step)) → RoseBy (settle_frames_of self.old.config) (L.lost link.old) (L.lost link.new) }
+        ensures lost { (step : _) → result ≡ Err (Refused (Lost step))
+            → RoseBy (settle_frames_of self.old.config) (L.lost link.old) (L.lost link.new) }
         ensures caused { (r : _) → result ≡ Err (Refused r) → IsCause self.old.config Settle self.new.drifts self.new.words r }
     {
         if let Some(refusal) = self.refusal {

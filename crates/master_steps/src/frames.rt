@@ -61,7 +61,8 @@ pub(crate) fn frame(config: &Config, notes: &Notes, step: Step) -> Frame
 fn offset(config: &Config, notes: &Notes, position: u16) -> u64
     requires { CanAsk (value_of config.now) (words_of notes.now.learned) notes.now.delays.items (Set position) }
     ensures { (let w = words_of notes.now.learned in
-        little_bytes (width (wide_at w position)) result ≡ little_bytes (width (wide_at w position)) (offset_at (value_of config.now) w position)) }
+        little_bytes (width (wide_at w position)) result
+        ≡ little_bytes (width (wide_at w position)) (offset_at (value_of config.now) w position)) }
 {
     let delay_ns = delay_or_0(&notes.delays, position);
     config
