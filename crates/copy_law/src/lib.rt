@@ -21,7 +21,8 @@
 //! other slave anything, and of `loss_run` + 1 in a row one comes to each such clock
 //! ([`laws::drift_frames_bring_times`]).
 //!
-//! That the copies of the clocks then stay near is not proved yet; these laws are what a proof of it begins with.
+//! That the copies of the clocks then stay near is not proved yet; these laws are what a proof of it begins with. A law
+//! on the edges of a run goes into a crate above this one, which is not there yet.
 #![tactic(auto)]
 
 pub mod laws;

@@ -6,8 +6,9 @@
 //! takes all ticks of an interval at once, and [`LocalClock::first_reaching`] finds the tick at which the
 //! clock comes to a value by bisection: neither goes from tick to tick. What they answer is said tick by tick, in
 //! `specs/StepRule.antt`, `specs/Reading.antt` and `specs/FirstReaching.antt`. What follows from these
-//! for any number of ticks, and for a whole history of differences and resets, is in the [`laws`], those of
-//! the local time without wrap (`specs/LocalTime.antt`) and since a receipt (`specs/Since.antt`) among them.
+//! for any number of ticks, and for a whole history of differences and resets, is in the [`laws`]. Some of them
+//! speak of the local time without wrap (`specs/LocalTime.antt`), and of a clock since it received a difference
+//! (`specs/Since.antt`).
 #![tactic(auto)]
 
 mod clock;

@@ -10,7 +10,8 @@
 //!
 //! ```text
 //!  Key         segment_shape/src/value_at.rt, slave_row.rt   Port: the value is missing, or of a wrong type or range
-//!  RowFault    segment_shape/src/row_fault.rt                At(Port); Row: the row is no object, or has an unknown key
+//!  RowFault    segment_shape/src/row_fault.rt                At(Port); Row: the row is no object, or has an unknown key,
+//!              segment_shape/src/known_keys.rt               which is looked at last: a key that is missing goes first
 //!  SlaveFault  segment_shape/src/slave_fault.rt              Own(At(Port)); Rate: of a row of the slave's rates
 //!  KeyPath     segment_shape/src/key_path.rt                 slaves[1].port; keys of the head, and losses, come here at once
 //!  ShapeError  segment_shape/src/shape_error.rt, shape.rt    Shape(slaves[1].port); also BadText, Twice and NoMemory
