@@ -7,6 +7,7 @@ pub mod OnTheWay
 pub mod AtSlaves
 pub mod Behind
 pub mod States
+mod Drifting
 pub mod First
 pub mod Bringing
 pub mod Registers
