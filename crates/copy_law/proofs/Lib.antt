@@ -17,6 +17,7 @@ pub mod Setting
 pub mod Delays
 pub mod Runs
 pub mod BehindLatch
+mod Standing
 pub mod Readings
 pub mod Times
 pub mod Exported

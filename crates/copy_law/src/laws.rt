@@ -27,7 +27,7 @@ ghost use Rattle.run_of_file.specs.Commissioned.{IsCommissioned, words_after};
 ghost use Rattle.run_of_file.specs.MasterOfFile.{master_of};
 ghost use Rattle.delay_law.specs.Resting.{row_there, shown_at};
 ghost use Rattle.copy_law.specs.HeldOffsets.{AreSet, HoldsSet};
-ghost use Rattle.copy_law.specs.Drifting.{IsBehind};
+ghost use Rattle.copy_law.specs.Drifting.{IsBehind, StandsBehind};
 ghost use Rattle.copy_law.specs.SinceLatch.{IsSinceLatch, counted_ns, latch_arrival};
 
 /// A drift frame of the script writes the system time, and the activation, the start time and the cycle times of a SYNC unit, and
@@ -143,4 +143,11 @@ pub fn drift_frames_follow()
     ensures last { (s : SegmentValue) (first run : RunEnd) (k : ℕ) → IsCommissioned s first → ran s ≡ Some run
         → length first.exchanges + k ≡ length run.exchanges → IsBehind s k run.state }
     ensures one { (s : SegmentValue) (k : ℕ) (t u : SegmentState) → IsBehind s k t → IsBehind s k u → t ≡ u }
+{}
+
+/// What holds of the segment of a legal file behind k drift frames. Its slaves are those of the file, sound, and each has its station address. It has sent
+/// C + k frames, where commissioning sent C, and k of them are drift frames. The last one left at C + k frame periods, and the next one leaves a
+/// period later. Each clock holds the offset and the delay that commissioning left.
+pub fn states_stand()
+    ensures { (s : SegmentValue) (k : ℕ) (t : SegmentState) → IsLegal s → (behind : IsBehind s k t) → StandsBehind s behind.first k t }
 {}
