@@ -1,4 +1,4 @@
--- Where the run of a file stands after commissioning, drift frame by drift frame.
+-- Where the segment of a file is after commissioning, drift frame by drift frame.
 use Rattle.std.specs.Prelude.{◌≡◌, ℕ, ◌+◌, List, ◌++◌, length, Some, Ok}
 use Rattle.copy_law.specs.HeldOffsets.{AreSet}
 use Rattle.copy_law.specs.Receipts.{sent_at}
@@ -24,8 +24,9 @@ pub record IsBehind (s : SegmentValue) (k : ℕ) (t : SegmentState) : Type 0 whe
   pub number : k ≡ length before
   pub led : Runs segment_step (Some first.state) before (Some t)
 
--- What holds of that state. The slaves are those of the file, sound, and each has its station address. So many frames were sent, k of them drift frames,
--- the last one at its frame period, and the next one leaves a period later. Each clock holds the offset and the delay that commissioning left.
+-- What holds of that state. The slaves are those of the file, sound, and each has its station address. So many frames were sent, k of
+-- them drift frames, the last one at its frame period, and the next one leaves a period later. Each clock holds the offset and the delay
+-- that commissioning left.
 pub record StandsBehind (s : SegmentValue) (first : RunEnd) (k : ℕ) (t : SegmentState) : Type 0 where
   pub file : IsOfFile s t
   pub named : AreInOrder (kind_at s) (status_at s) (length s.rows) (length s.rows) t.slaves

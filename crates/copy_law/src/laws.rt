@@ -132,12 +132,14 @@ pub fn drift_frames_bring_times()
         → r < p }
 {}
 
-/// The states behind drift frames: there is one behind none, where commissioning ended, and one behind those before each drift frame that the
-/// run sends. Each is what the frame makes of the one before, and the last is that in which the run ends. Behind k of them there is only one.
+/// The states after drift frames: there is one after none, where commissioning ended, and one before each drift frame that the run
+/// sends. Each is what the frame makes of the one before, and the last is that in which the run ends. After k of them there is only
+/// one.
 pub fn drift_frames_follow()
     ensures begins { (s : SegmentValue) (first : RunEnd) → IsCommissioned s first → IsBehind s 0 first.state }
     ensures frame { (s : SegmentValue) (first run : RunEnd) (k : ℕ) → IsCommissioned s first → ran s ≡ Some run
-        → length first.exchanges + k < length run.exchanges → (t : SegmentState) × (e : Exchange) × IsBehind s k t × IsDriftFrame s (k + 1) t e }
+        → length first.exchanges + k < length run.exchanges
+        → (t : SegmentState) × (e : Exchange) × IsBehind s k t × IsDriftFrame s (k + 1) t e }
     ensures next { (s : SegmentValue) (k : ℕ) (t : SegmentState) (e : Exchange) → IsLegal s → IsDriftFrame s (k + 1) t e
         → IsBehind s k t × IsBehind s (k + 1) (segment_step t e.wait_ns e.sent).0 }
     ensures last { (s : SegmentValue) (first run : RunEnd) (k : ℕ) → IsCommissioned s first → ran s ≡ Some run
@@ -145,9 +147,9 @@ pub fn drift_frames_follow()
     ensures one { (s : SegmentValue) (k : ℕ) (t u : SegmentState) → IsBehind s k t → IsBehind s k u → t ≡ u }
 {}
 
-/// What holds of the segment of a legal file behind k drift frames. Its slaves are those of the file, sound, and each has its station address. It has sent
-/// C + k frames, where commissioning sent C, and k of them are drift frames. The last one left at C + k frame periods, and the next one leaves a
-/// period later. Each clock holds the offset and the delay that commissioning left.
+/// What holds of the segment of a legal file after k drift frames. Its slaves are those of the file, sound, and each has its station
+/// address. C + k frames were sent, where commissioning sent C, and k of them are drift frames. The last one left at C + k frame
+/// periods, and the next one leaves a period later. Each clock holds the offset and the delay that commissioning left.
 pub fn states_stand()
     ensures { (s : SegmentValue) (k : ℕ) (t : SegmentState) → IsLegal s → (behind : IsBehind s k t) → StandsBehind s behind.first k t }
 {}
