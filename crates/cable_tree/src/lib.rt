@@ -11,8 +11,8 @@
 //!
 //! Contracts see a tree as the list of its rows, and every answer is a definition over that list:
 //! `specs/Segment.antt`, `specs/FrameOrder.antt` and `specs/PathSums.antt`, which are recursions on
-//! subtrees. What knows slaves by their places in the frame order finds the same tree told so in
-//! `specs/Positions.antt`. The code walks the tree with a stack, once, and keeps what it found in tables.
+//! subtrees. For crates that name a slave by its position in the frame order, in place of its row,
+//! `specs/Positions.antt` has the same tree by positions. The code walks the tree with a stack, once, and keeps what it found in tables.
 #![tactic(auto)]
 
 mod checks;

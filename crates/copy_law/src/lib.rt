@@ -21,7 +21,9 @@
 //! other slave anything, and of `loss_run` + 1 in a row one comes to each such clock
 //! ([`laws::drift_frames_bring_times`]).
 //!
-//! That the copies of the clocks then stay near is not proved yet; these laws are what a proof of it begins with.
+//! That the copies of the clocks then stay near is not proved yet; a proof of it begins with these laws, and goes
+//! here. Laws on the edges of a run do not: when edges are, and how far apart, goes into a crate above this one,
+//! `edge_law`, which is not there yet.
 #![tactic(auto)]
 
 pub mod laws;

@@ -9,6 +9,9 @@
 //! Callers are generic in the link. `specs/Exchanges.antt` has what one exchange and a list of them
 //! are, and `specs/Serves.antt` how a caller says in its contract that its exchanges are those that
 //! its script wants. [`laws`] has what is true of these.
+//!
+//! [`try_frame`] sends a frame up to three times, for callers other than the master. The master has a loop
+//! of its own, since it counts each try: `ask` in `master_steps/src/exchange.rt`.
 #![tactic(auto)]
 
 pub mod laws;

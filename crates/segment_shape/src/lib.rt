@@ -7,7 +7,12 @@
 //! each value is of its type and in its range ([`KeyPath`] says where it is not), and no two rows have
 //! one id. What rows say of one another, as a tree of cables, is no part of the shape.
 //!
-//! Contracts see the file as a JSON value, and what it says is defined in `specs/ShapeOf.antt`.
+//! The head comes first, then the slave rows, then the loss rows. In each of them the keys come in their
+//! order, missing ones among them, and keys that are not known come last: a misspelt key that a row must
+//! have is told as the missing one.
+//!
+//! Contracts see the file as a JSON value, and what it says is defined in `specs/ShapeOf.antt`; the keys and
+//! ranges are in `specs/Head.antt`, `specs/Slaves.antt`, `specs/Rates.antt` and `specs/Losses.antt`.
 #![tactic(auto)]
 
 mod id;
