@@ -8,7 +8,7 @@ _dc() {
         esac
     done
     case $before in
-        '<' | '>' | '>>' | '2>') mapfile -t COMPREPLY < <(compgen -f -- "$word") ;;
+        '<' | '>' | '>>' | '2>') COMPREPLY=(); compopt -o default ;;   # a file name, as bash completes it
         *)
             case $command in
                 '') mapfile -t COMPREPLY < <(compgen -W 'check delays run migrate gen drill show --edges' -- "$word") ;;

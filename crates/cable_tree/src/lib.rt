@@ -11,8 +11,8 @@
 //!
 //! Contracts see a tree as the list of its rows, and every answer is a definition over that list:
 //! `specs/Segment.antt`, `specs/FrameOrder.antt` and `specs/PathSums.antt`, which are recursions on
-//! subtrees. For crates that name a slave by its position in the frame order, in place of its row,
-//! `specs/Positions.antt` has the same tree by positions. The code walks the tree with a stack, once, and keeps what it found in tables.
+//! subtrees. `specs/Positions.antt` has the same tree with its rows in frame order, for callers that
+//! know a slave by its position, as a master does. The code walks the tree with a stack, once, and keeps what it found in tables.
 #![tactic(auto)]
 
 mod checks;

@@ -71,7 +71,7 @@ pub record IsWanted (cfg : ConfigValue) (frames : ℕ) (es : List Exchange) (e :
   pub call : Call
   pub wanted : script cfg call es ≡ Send e.wait_ns e.sent
 
-wanted_there : (cfg : ConfigValue) (frames : ℕ) (all : List Exchange) → AreScripted cfg frames all → (es : List Exchange) (e : Exchange) (rest : List Exchange) → all ≡ es ++ e ∷ rest
+pub wanted_there : (cfg : ConfigValue) (frames : ℕ) (all : List Exchange) → AreScripted cfg frames all → (es : List Exchange) (e : Exchange) (rest : List Exchange) → all ≡ es ++ e ∷ rest
     → IsWanted cfg frames es e
 wanted_there cfg frames _ none es e rest is =
     absurd (let whole = ap (λ (zs : List Exchange). length zs) is in let parts = length-append es (e ∷ rest) in omega (arith, whole, parts))
@@ -92,7 +92,7 @@ numbered_there : (s : SegmentValue) (number : ℕ) (es : List Exchange) (e : Exc
 numbered_there s number [] e rest h = (tt, h.0)
 numbered_there s number (x ∷ es) e rest h = let r = numbered_there s (number + 1) es e rest h.2 in ((h.0, h.1, r.0), r.1)
 
-drifts_led : (s : SegmentValue) (number : ℕ) (es : List Exchange) (w t : SegmentState) → w.sent + length es ≤ 1000000 → AreNumbered s phase.Drift number es → Runs segment_step (Some w) es (Some t)
+pub drifts_led : (s : SegmentValue) (number : ℕ) (es : List Exchange) (w t : SegmentState) → w.sent + length es ≤ 1000000 → AreNumbered s phase.Drift number es → Runs segment_step (Some w) es (Some t)
     → t.drift ≡ w.drift + length es
 drifts_led s number [] w t few numbered runs = let same = ap (λ (u : SegmentState). u.drift) (some_same runs) in omega (arith, same)
 drifts_led s number (e ∷ es) w t few numbered runs =

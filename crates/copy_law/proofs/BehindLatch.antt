@@ -72,24 +72,24 @@ module _ (s : SegmentValue) (legal : IsLegal s) (first : RunEnd) (was : commissi
   abbrev words : Words
   words = (progress (master_of s) first.exchanges).words
 
-  behind : (run : RunEnd) → IsFromStart s run → HoldAlike 0x0920 8 first.state.slaves run.state.slaves → HoldAlike 0x0928 4 first.state.slaves run.state.slaves → AreSet s words run.state.slaves
-  behind run from offset delay =
+  pub set_from : (run : RunEnd) → IsFromStart s run → HoldAlike 0x0920 8 first.state.slaves run.state.slaves → HoldAlike 0x0928 4 first.state.slaves run.state.slaves → AreSet s words run.state.slaves
+  set_from run from offset delay =
       are_set_on s words first.state.slaves run.state.slaves (record { fixed = fixed_run s run from ∙ sym (fixed_run s first (commissioned_exchanges s first was)); offset = offset; delay = delay })
       (commissioned_set s legal first was ok)
 
   pub settled_set : (run : RunEnd) → settled s ≡ Some run → AreSet s words run.state.slaves
   settled_set run is =
-      behind run (settled_exchanges s run is) (settled_holds s legal 0x0920 8 (plain_held 0x0920 8 (offset_plain 8 (omega arith))) offset_untouched first run was is)
+      set_from run (settled_exchanges s run is) (settled_holds s legal 0x0920 8 (plain_held 0x0920 8 (offset_plain 8 (omega arith))) offset_untouched first run was is)
       (settled_holds s legal 0x0928 4 (plain_held 0x0928 4 delay_plain) delay_untouched first run was is)
 
   pub armed_set : (run : RunEnd) → armed s ≡ Some run → AreSet s words run.state.slaves
   armed_set run is =
-      behind run (armed_exchanges s run is) (armed_holds s legal 0x0920 8 (plain_held 0x0920 8 (offset_plain 8 (omega arith))) offset_untouched first run was is)
+      set_from run (armed_exchanges s run is) (armed_holds s legal 0x0920 8 (plain_held 0x0920 8 (offset_plain 8 (omega arith))) offset_untouched first run was is)
       (armed_holds s legal 0x0928 4 (plain_held 0x0928 4 delay_plain) delay_untouched first run was is)
 
   pub ran_set : (run : RunEnd) → ran s ≡ Some run → AreSet s words run.state.slaves
   ran_set run is =
-      behind run (ran_exchanges s run is) (ran_holds s legal 0x0920 8 (plain_held 0x0920 8 (offset_plain 8 (omega arith))) offset_untouched first run was is)
+      set_from run (ran_exchanges s run is) (ran_holds s legal 0x0920 8 (plain_held 0x0920 8 (offset_plain 8 (omega arith))) offset_untouched first run was is)
       (ran_holds s legal 0x0928 4 (plain_held 0x0928 4 delay_plain) delay_untouched first run was is)
 
   -- clocks that go on to the end of the run

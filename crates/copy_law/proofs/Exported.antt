@@ -8,3 +8,7 @@ pub use Rattle.copy_law.proofs.Unwritten.{datagrams_none, left_none}
 pub use Rattle.copy_law.proofs.Slaves.{plain_held}
 -- Behind commissioning the slaves hold what they held.
 pub use Rattle.copy_law.proofs.Held.{settled_holds, armed_holds, ran_holds}
+-- The states behind drift frames: the way there, and what each frame keeps of them.
+pub use Rattle.copy_law.proofs.Drifting.{begins_behind, frame_there, last_behind, found_behind, left_behind, same_first, same_before, one_behind, last_frame, behind_induction}
+-- What holds of these states: the run as if it ended there, what drift frames keep of slaves, and the rest of the law.
+pub use Rattle.copy_law.proofs.Standing.{cut, from_start, scripted, drifted, behind_alike, stands_behind}

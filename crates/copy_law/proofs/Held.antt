@@ -71,7 +71,7 @@ quiet_frames s cfg at n far number (e ∷ es) steps numbered =
     (subst (IsQuiet at n) (sym one.is) quiet, quiet_frames s cfg at n far (number + 1) es steps.1 numbered.2)
 
 module _ {X : Type 0} (see : Slave → X) (at n : ℕ) (kept : IsKept see at n) (far : IsUntouched at n) (s : SegmentValue) (legal : IsLegal s) where
-  drifted_alike : (first run : RunEnd) → commissioned s ≡ Some first → Drifted s first run → map see run.state.slaves ≡ map see first.state.slaves
+  pub drifted_alike : (first run : RunEnd) → commissioned s ≡ Some first → Drifted s first run → map see run.state.slaves ≡ map see first.state.slaves
   drifted_alike first run was d =
       let cfg = master_of s in
       let some = some_kinds s legal in

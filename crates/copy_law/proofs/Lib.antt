@@ -7,6 +7,7 @@ pub mod OnTheWay
 pub mod AtSlaves
 pub mod Behind
 pub mod States
+mod Drifting
 pub mod First
 pub mod Bringing
 pub mod Registers
@@ -16,6 +17,7 @@ pub mod Setting
 pub mod Delays
 pub mod Runs
 pub mod BehindLatch
+mod Standing
 pub mod Readings
 pub mod Times
 pub mod Exported

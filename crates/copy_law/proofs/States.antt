@@ -85,11 +85,11 @@ module _ (cfg : ConfigValue) (frames : ℕ) (some : 0 < length cfg.kinds) (few :
   all_push [] e all here = (here, tt)
   all_push (x ∷ es) e all here = (all.0, all_push es e all.1 here)
 
-  mindful_all : (es : List Exchange) → AreScripted cfg frames es → AllByRecursion (λ (x : Exchange). AreMindful 0 x.sent.datagrams) es
+  pub mindful_all : (es : List Exchange) → AreScripted cfg frames es → AllByRecursion (λ (x : Exchange). AreMindful 0 x.sent.datagrams) es
   mindful_all _ none = tt
   mindful_all _ (more es e call before limited next) = all_push es e (mindful_all es before) (mindful_one call es e next)
 
-all_behind : (xs ys : List Exchange) → AllByRecursion (λ (x : Exchange). AreMindful 0 x.sent.datagrams) (xs ++ ys) → AllByRecursion (λ (x : Exchange). AreMindful 0 x.sent.datagrams) ys
+pub all_behind : (xs ys : List Exchange) → AllByRecursion (λ (x : Exchange). AreMindful 0 x.sent.datagrams) (xs ++ ys) → AllByRecursion (λ (x : Exchange). AreMindful 0 x.sent.datagrams) ys
 all_behind [] ys all = all
 all_behind (x ∷ xs) ys all = all_behind xs ys all.1
 
@@ -98,7 +98,7 @@ pub record IsOrderly (s : SegmentValue) (w : SegmentState) : Type 0 where
   pub sound : IsSoundSegment w
   pub are : AreInOrder (kind_at s) (status_at s) (length s.rows) (length s.rows) w.slaves
 
-orderly_led : (s : SegmentValue) (es : List Exchange) (w v : SegmentState) → Runs segment_step (Some w) es (Some v) → AllByRecursion (λ (x : Exchange). AreMindful 0 x.sent.datagrams) es
+pub orderly_led : (s : SegmentValue) (es : List Exchange) (w v : SegmentState) → Runs segment_step (Some w) es (Some v) → AllByRecursion (λ (x : Exchange). AreMindful 0 x.sent.datagrams) es
     → IsOrderly s w → IsOrderly s v
 orderly_led s [] w v runs mindful h = subst (IsOrderly s) (some_same (sym runs)) h
 orderly_led s (e ∷ es) w v runs mindful h = orderly_led s es (segment_step w e.wait_ns e.sent).0 v runs.1 mindful.1 (record {

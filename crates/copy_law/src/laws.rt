@@ -3,7 +3,7 @@
 
 ghost use Rattle.std.specs.Prelude.{◌≡◌, ℕ, Some, ◌≢◌, ◌+◌, ◌<◌, ◌≤◌, [], ◌∷◌, true, length, slice_get, if◌then◌else◌, ◌%◌, ◌^◌};
 ghost use Rattle.copy_law.specs.Untouched.{AreLasting, CorrectAlike, HoldAlike, IsUntouched, WriteNone};
-ghost use Rattle.frame_pass.specs.SegmentState.{phase_of, SegmentState, leaves_at};
+ghost use Rattle.frame_pass.specs.SegmentState.{phase_of, SegmentState, leaves_at, segment_step};
 ghost use Rattle.master_script.specs.Config.{ConfigValue};
 ghost use Rattle.master_script.specs.Steps.{datagrams_of};
 ghost use Rattle.master_script.specs.Words.{Words, delay_at, offset_at};
@@ -27,6 +27,7 @@ ghost use Rattle.run_of_file.specs.Commissioned.{IsCommissioned, words_after};
 ghost use Rattle.run_of_file.specs.MasterOfFile.{master_of};
 ghost use Rattle.delay_law.specs.Resting.{row_there, shown_at};
 ghost use Rattle.copy_law.specs.HeldOffsets.{AreSet, HoldsSet};
+ghost use Rattle.copy_law.specs.Drifting.{IsBehind, StandsBehind};
 ghost use Rattle.copy_law.specs.SinceLatch.{IsSinceLatch, counted_ns, latch_arrival};
 
 /// A drift frame of the script writes the system time, and the activation, the start time and the cycle times of a SYNC unit, and
@@ -129,4 +130,24 @@ pub fn drift_frames_bring_times()
         → (k : ℕ) × (first ≤ k) × (k ≤ first + s.head.loss_run) × (receives s r k p ≡ true) }
     ensures behind { (s : SegmentValue) (p r : ℕ) → IsLegal s → IsReference s r → p < length s.rows → has_clock (kind_at s p) ≡ true → p ≢ r
         → r < p }
+{}
+
+/// The states behind drift frames: there is one behind none, where commissioning ended, and one behind those before each drift frame that the
+/// run sends. Each is what the frame makes of the one before, and the last is that in which the run ends. Behind k of them there is only one.
+pub fn drift_frames_follow()
+    ensures begins { (s : SegmentValue) (first : RunEnd) → IsCommissioned s first → IsBehind s 0 first.state }
+    ensures frame { (s : SegmentValue) (first run : RunEnd) (k : ℕ) → IsCommissioned s first → ran s ≡ Some run
+        → length first.exchanges + k < length run.exchanges → (t : SegmentState) × (e : Exchange) × IsBehind s k t × IsDriftFrame s (k + 1) t e }
+    ensures next { (s : SegmentValue) (k : ℕ) (t : SegmentState) (e : Exchange) → IsLegal s → IsDriftFrame s (k + 1) t e
+        → IsBehind s k t × IsBehind s (k + 1) (segment_step t e.wait_ns e.sent).0 }
+    ensures last { (s : SegmentValue) (first run : RunEnd) (k : ℕ) → IsCommissioned s first → ran s ≡ Some run
+        → length first.exchanges + k ≡ length run.exchanges → IsBehind s k run.state }
+    ensures one { (s : SegmentValue) (k : ℕ) (t u : SegmentState) → IsBehind s k t → IsBehind s k u → t ≡ u }
+{}
+
+/// What holds of the segment of a legal file behind k drift frames. Its slaves are those of the file, sound, and each has its station address. It has sent
+/// C + k frames, where commissioning sent C, and k of them are drift frames. The last one left at C + k frame periods, and the next one leaves a
+/// period later. Each clock holds the offset and the delay that commissioning left.
+pub fn states_stand()
+    ensures { (s : SegmentValue) (k : ℕ) (t : SegmentState) → IsLegal s → (behind : IsBehind s k t) → StandsBehind s behind.first k t }
 {}

@@ -21,9 +21,13 @@
 //! other slave anything, and of `loss_run` + 1 in a row one comes to each such clock
 //! ([`laws::drift_frames_bring_times`]).
 //!
-//! That the copies of the clocks then stay near is not proved yet; a proof of it begins with these laws, and goes
-//! here. Laws on the edges of a run do not: when edges are, and how far apart, goes into a crate above this one,
-//! `edge_law`, which is not there yet.
+//! **Where drift frames lead.** There is one state of the segment behind each number of drift frames that a run sends: the
+//! next frame finds it, and makes the next state of it, and the last is that in which the run ends
+//! ([`laws::drift_frames_follow`]). In each of them the slaves are those of the file, each frame so far left at its period,
+//! and each clock holds the offset and the delay that commissioning left ([`laws::states_stand`]).
+//!
+//! That the copies of the clocks then stay near is not proved yet; these laws are what a proof of it begins with. A law
+//! on the edges of a run goes into a crate above this one, which is not there yet.
 #![tactic(auto)]
 
 pub mod laws;

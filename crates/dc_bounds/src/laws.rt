@@ -133,7 +133,8 @@ pub fn differences_fall()
 {}
 
 /// The same, one difference at a time: of the first one (`first`), of each further one, by the one before it
-/// (`next`), and what follows of one that comes after frame K (`locked`), and of every one (`within`).
+/// (`next`), and what follows of one that comes after frame K (`locked`), and, where Q of `loss_run` + 1 periods is at
+/// most Q of the reach, of every one (`within`).
 pub fn clocks_are_drawn()
     ensures first { (ppm frame_ns speed loss_run reach frame size : ℕ) → frame ≤ loss_run + 1 → size ≤ jump ppm reach
         → IsDrawn ppm frame_ns speed loss_run reach 0 frame size }

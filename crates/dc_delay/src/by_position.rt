@@ -33,8 +33,8 @@ pub fn judged_by_position()
 {}
 
 /// The list that [`delays`](crate::delays) answers over the shape of a tree, where the latched times of each measuring
-/// slave are within `g` fs of its laps, by whatever clocks: at the position of each clock stands a delay, and it is within
-/// half of its row's weight times `g`, and half a nanosecond, of the true one.
+/// slave are within `g` fs of its laps, and so is each difference of two of them, by whatever clocks: at the position of
+/// each clock is a delay, and it is within half of its row's weight times `g`, and half a nanosecond, of the true one.
 pub fn delays_by_latches_are_near()
     ensures { (rows : List Row) → IsTree rows → All IsRow rows
         → (measures there : ℕ → Bool) → IsByPosition rows measures there → (timed clocks : ℕ → Bool) → IsByPosition rows timed clocks

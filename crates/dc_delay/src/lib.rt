@@ -5,9 +5,9 @@
 //! ports. The difference of two of these times is how long it took from the frame's arrival at the slave
 //! until it came back into a port. From these, from the tree and from the forwarding delays of the
 //! slaves, [`delays`] computes how much later than at the reference clock the frame arrives at every
-//! clock. All cables are taken to be as long there as back. Which differences are added and taken off,
-//! and that their sum is halved once, at its end, is this project's rule. Whether there are delays is
-//! known from the tree before any slave has latched: [`judge`] says so.
+//! clock. All cables are taken to be as long there as back. The sum over a way is kept whole,
+//! and halved once at its end. This, and what is added up, are this project's rules. Whether there are delays is known
+//! from the tree before any slave has latched: [`judge`] says so.
 //!
 //! The definitions stand over the rows of `cable_tree` (`specs/MeasuredDelay.antt`); a shape with the
 //! kinds of its slaves is such a list without cables (`specs/ShapeRows.antt`).

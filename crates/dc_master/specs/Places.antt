@@ -17,7 +17,8 @@ use Rattle.master_steps.specs.declared.exchange.Counters.{Counters}
 use Rattle.wrap_time.specs.Extended.{extended}
 
 -- a part of a call was refused, and this is kept
-pub record HasRefused (cfg : ConfigValue) (n : Counters) (w : Words) (ds : List (Option ℕ)) (r : Refusal) (es : List Exchange) : Type 0 where
+pub record HasRefused (cfg : ConfigValue) (n : Counters) (w : Words) (ds : List (Option ℕ)) (r : Refusal)
+    (es : List Exchange) : Type 0 where
   pub refused : (progress cfg es).refused ≡ Some r
   pub sent : (progress cfg es).sent ≡ n.sent
   pub lost : (progress cfg es).lost ≡ n.lost
@@ -26,7 +27,8 @@ pub record HasRefused (cfg : ConfigValue) (n : Counters) (w : Words) (ds : List 
   pub delays : (if has_delays (progress cfg es) then delays_of cfg w else []) ≡ ds
 
 -- a part of a call has ended, with these steps still to be asked
-abbrev pub AfterPart : ConfigValue → Phase → Counters → Words → List Step → List (Option ℕ) → Result (Unit {0}) Refusal → List Exchange → Type 0
+abbrev pub AfterPart : ConfigValue → Phase → Counters → Words → List Step → List (Option ℕ) → Result (Unit {0}) Refusal → List Exchange
+    → Type 0
 AfterPart cfg s n w todo delays (Ok _) es = Asks cfg s n w todo es
 AfterPart cfg s n w todo delays (Err r) es = HasRefused cfg n w delays r es
 

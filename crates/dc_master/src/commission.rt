@@ -18,10 +18,9 @@ ghost use Rattle.master_script.specs.declared.step.Refusal.TheVariants.{Lost};
 ghost use Rattle.master_script.specs.declared.step.Step.{Step as AnyStep};
 ghost use Rattle.master_script.specs.declared.step.Step.TheVariants.{Set, Times};
 
-use crate::measured::measure_delays;
 use dc_topology::Shape;
 use ecat_link::Link;
-use master_frames::judge_slaves;
+use master_frames::{judge_slaves, measure_delays};
 use master_script::{Refusal, Step};
 use master_steps::{Config, Notes, take};
 
@@ -34,7 +33,8 @@ pub(crate) fn commission<L: Link>(
     requires config { IsConfig (value_of config.now) }
     requires fresh { IsFresh (value_of config.now) notes.old.counters (words_of notes.old.learned) notes.old.delays.items }
     ensures serves { Serves L.step (script (value_of config.now) Commission)
-        (Asks (value_of config.now) Commissioning notes.old.counters (words_of notes.old.learned) (first_steps (value_of config.now))) (L.state link.old) (L.state link.new)
+        (Asks (value_of config.now) Commissioning notes.old.counters (words_of notes.old.learned) (first_steps (value_of config.now)))
+        (L.state link.old) (L.state link.new)
         (AfterPart (value_of config.now) Commissioning notes.new.counters (words_of notes.new.learned) [] notes.new.delays.items result) }
     ensures ready { OnOk result (IsReady (value_of config.now) (words_of notes.new.learned) notes.new.delays.items) }
     ensures sent { HasSent notes.old.counters notes.new.counters 2313 }
@@ -68,7 +68,8 @@ fn identify_slaves<L: Link>(config: &Config, notes: &mut Notes, link: &mut L) ->
     requires reference { (words_of notes.old.learned).reference ≡ None }
     requires delays { notes.old.delays.items ≡ [] }
     ensures serves { Serves L.step (script (value_of config.now) Commission)
-        (Asks (value_of config.now) Commissioning notes.old.counters (words_of notes.old.learned) (first_steps (value_of config.now))) (L.state link.old) (L.state link.new)
+        (Asks (value_of config.now) Commissioning notes.old.counters (words_of notes.old.learned) (first_steps (value_of config.now)))
+        (L.state link.old) (L.state link.new)
         (AfterPart (value_of config.now) Commissioning notes.new.counters (words_of notes.new.learned) [] [] result) }
     ensures slaves { OnOk result (length (words_of notes.new.learned).slaves ≡ slaves_of (value_of config.now)) }
     ensures fewer { OnErr result (length (words_of notes.new.learned).slaves < slaves_of (value_of config.now)) }
@@ -103,13 +104,16 @@ fn measure<L: Link>(config: &Config, notes: &mut Notes, link: &mut L) -> Result<
     requires unread { (p : ℕ) → measures (words_of notes.old.learned).latches p ≡ false }
     requires delays { notes.old.delays.items ≡ [] }
     ensures serves { Serves L.step (script (value_of config.now) Commission)
-        (Asks (value_of config.now) Commissioning notes.old.counters (words_of notes.old.learned) (later_steps (words_of notes.old.learned).slaves))
+        (Asks (value_of config.now) Commissioning notes.old.counters (words_of notes.old.learned)
+        (later_steps (words_of notes.old.learned).slaves))
         (L.state link.old) (L.state link.new)
-        (AfterPart (value_of config.now) Commissioning notes.new.counters (words_of notes.new.learned) (map Set (clocks (words_of notes.old.learned).slaves)) [] result) }
+        (AfterPart (value_of config.now) Commissioning notes.new.counters (words_of notes.new.learned)
+        (map Set (clocks (words_of notes.old.learned).slaves)) [] result) }
     ensures slaves { (words_of notes.new.learned).slaves ≡ (words_of notes.old.learned).slaves }
     ensures reference { (words_of notes.new.learned).reference ≡ (words_of notes.old.learned).reference }
     ensures latches { length (words_of notes.new.learned).latches ≡ length (words_of notes.old.learned).latches }
-    ensures read { OnOk result ((p : ℕ) → measures (words_of notes.new.learned).latches p ≡ flag (map is_measuring (words_of notes.old.learned).slaves) p) }
+    ensures read { OnOk result ((p : ℕ)
+        → measures (words_of notes.new.learned).latches p ≡ flag (map is_measuring (words_of notes.old.learned).slaves) p) }
     ensures delays { notes.new.delays.items ≡ [] }
     ensures sent { HasSent notes.old.counters notes.new.counters 774 }
     ensures drifts { notes.new.counters.drifts ≡ notes.old.counters.drifts }
@@ -136,12 +140,15 @@ fn read_times<L: Link>(config: &Config, notes: &mut Notes, link: &mut L) -> Resu
     requires unread { (p : ℕ) → measures (words_of notes.old.learned).latches p ≡ false }
     requires delays { notes.old.delays.items ≡ [] }
     ensures serves { (rest : List AnyStep) → Serves L.step (script (value_of config.now) Commission)
-        (Asks (value_of config.now) Commissioning notes.old.counters (words_of notes.old.learned) (map Times (measuring (words_of notes.old.learned).slaves) ++ rest))
-        (L.state link.old) (L.state link.new) (AfterPart (value_of config.now) Commissioning notes.new.counters (words_of notes.new.learned) rest [] result) }
+        (Asks (value_of config.now) Commissioning notes.old.counters (words_of notes.old.learned)
+        (map Times (measuring (words_of notes.old.learned).slaves) ++ rest))
+        (L.state link.old) (L.state link.new)
+        (AfterPart (value_of config.now) Commissioning notes.new.counters (words_of notes.new.learned) rest [] result) }
     ensures slaves { (words_of notes.new.learned).slaves ≡ (words_of notes.old.learned).slaves }
     ensures reference { (words_of notes.new.learned).reference ≡ (words_of notes.old.learned).reference }
     ensures latches { length (words_of notes.new.learned).latches ≡ length (words_of notes.old.learned).latches }
-    ensures read { OnOk result ((p : ℕ) → measures (words_of notes.new.learned).latches p ≡ flag (map is_measuring (words_of notes.old.learned).slaves) p) }
+    ensures read { OnOk result ((p : ℕ)
+        → measures (words_of notes.new.learned).latches p ≡ flag (map is_measuring (words_of notes.old.learned).slaves) p) }
     ensures delays { notes.new.delays.items ≡ [] }
     ensures sent { HasSent notes.old.counters notes.new.counters 768 }
     ensures drifts { notes.new.counters.drifts ≡ notes.old.counters.drifts }
@@ -166,7 +173,8 @@ fn set_clocks<L: Link>(config: &Config, notes: &mut Notes, link: &mut L) -> Resu
     requires room { HasRoom notes.old.counters 768 }
     requires ready { IsReady (value_of config.now) (words_of notes.old.learned) notes.old.delays.items }
     ensures serves { Serves L.step (script (value_of config.now) Commission)
-        (Asks (value_of config.now) Commissioning notes.old.counters (words_of notes.old.learned) (map Set (clocks (words_of notes.old.learned).slaves)))
+        (Asks (value_of config.now) Commissioning notes.old.counters (words_of notes.old.learned)
+        (map Set (clocks (words_of notes.old.learned).slaves)))
         (L.state link.old) (L.state link.new)
         (AfterPart (value_of config.now) Commissioning notes.new.counters (words_of notes.new.learned) [] notes.new.delays.items result) }
     ensures words { words_of notes.new.learned ≡ words_of notes.old.learned }

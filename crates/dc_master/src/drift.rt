@@ -41,8 +41,10 @@ pub(crate) fn settle<L: Link>(
     requires room { HasRoom notes.old.counters 100016 }
     requires first { notes.old.counters.drifts ≡ 0 }
     requires ready { IsReady (value_of config.now) (words_of notes.old.learned) notes.old.delays.items }
-    ensures serves { Serves L.step (script (value_of config.now) SettleCall) (AtRest (value_of config.now) Settling notes.old.counters (words_of notes.old.learned) [])
-        (L.state link.old) (L.state link.new) (AfterSettle (value_of config.now) notes.new.counters (words_of notes.new.learned) notes.new.delays.items result) }
+    ensures serves { Serves L.step (script (value_of config.now) SettleCall)
+        (AtRest (value_of config.now) Settling notes.old.counters (words_of notes.old.learned) [])
+        (L.state link.old) (L.state link.new)
+        (AfterSettle (value_of config.now) notes.new.counters (words_of notes.new.learned) notes.new.delays.items result) }
     ensures ready { OnOk result (IsReady (value_of config.now) (words_of notes.new.learned) notes.new.delays.items) }
     ensures slaves { (words_of notes.new.learned).slaves ≡ (words_of notes.old.learned).slaves }
     ensures sent { HasSent notes.old.counters notes.new.counters 100016 }
@@ -77,7 +79,8 @@ fn receive_time(
 ) -> Result<(), Refusal>
     requires config { IsConfig (value_of config.now) }
     requires sent { sent.now ≡ built (drift_datagrams (reference_of (words_of notes.old.learned))) }
-    ensures is { IsTimed (value_of config.now) notes.old.counters clocks sent.now reply.now (words_of notes.old.learned) (words_of notes.new.learned) result }
+    ensures is { IsTimed (value_of config.now) notes.old.counters clocks sent.now reply.now (words_of notes.old.learned)
+        (words_of notes.new.learned) result }
     ensures valid { IsFrame reply.now }
     ensures counters { notes.new.counters ≡ notes.old.counters }
     ensures delays { notes.new.delays.items ≡ notes.old.delays.items }
@@ -101,8 +104,10 @@ pub(crate) fn run<L: Link>(
     requires config { IsConfig (value_of config.now) }
     requires room { HasRoom notes.old.counters frames }
     requires ready { IsReady (value_of config.now) (words_of notes.old.learned) notes.old.delays.items }
-    ensures serves { Serves L.step (script (value_of config.now) (Run frames)) (AtRest (value_of config.now) Running notes.old.counters (words_of notes.old.learned) [])
-        (L.state link.old) (L.state link.new) (AfterRun (value_of config.now) notes.new.counters (words_of notes.new.learned) frames notes.new.delays.items result) }
+    ensures serves { Serves L.step (script (value_of config.now) (Run frames))
+        (AtRest (value_of config.now) Running notes.old.counters (words_of notes.old.learned) [])
+        (L.state link.old) (L.state link.new)
+        (AfterRun (value_of config.now) notes.new.counters (words_of notes.new.learned) frames notes.new.delays.items result) }
     ensures words { words_of notes.new.learned ≡ words_of notes.old.learned }
     ensures delays { notes.new.delays.items ≡ notes.old.delays.items }
     ensures sent { HasSent notes.old.counters notes.new.counters frames }

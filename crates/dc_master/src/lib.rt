@@ -5,13 +5,12 @@
 //! What it sends, how it judges what comes back, and how each of its calls ends is the script of
 //! `master_script`, whose steps `master_steps` takes. Each call says that it made the exchanges that the script wants, and that the master
 //! keeps afterwards what the script gives over them. The master knows no wire and no file, and takes no
-//! memory after it was made.
+//! memory but that of its configuration, which it is given.
 #![tactic(auto)]
 
 mod commission;
 mod drift;
 mod master;
-mod measured;
 
 pub use master::Master;
 pub use master_script::{MasterError, Refusal, Stage, Step, SyncPlan};

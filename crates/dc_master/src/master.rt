@@ -17,8 +17,9 @@ use crate::drift::{run, settle, settle_frames};
 use arrayvec::ArrayVec;
 use dc_base::NoMemory;
 use ecat_link::Link;
+use master_frames::Learned;
 use master_script::{MasterError, Refusal, Stage};
-use master_steps::{Config, Counters, Learned, Notes, start};
+use master_steps::{Config, Counters, Notes, start};
 use std::alloc::Global;
 use std::marker::Model;
 
@@ -47,17 +48,15 @@ impl Model for Master {
 }
 
 impl Master {
-    /// A master that has sent nothing. It takes all the memory that it ever needs.
-    pub fn new(alloc: Global, config: Config) -> Result<Master, NoMemory>
+    /// A master that has sent nothing. It keeps the memory of its configuration, and takes none.
+    pub fn new(_alloc: Global, config: Config) -> Result<Master, NoMemory>
         requires { IsConfig (value_of config) }
         ensures fresh { IfOk result (λ m. StandsFor None m []) }
         ensures config { IfOk result (λ m. m.config ≡ value_of config) }
         ensures stage { IfOk result (λ m. m.stage ≡ stage.Fresh) }
         ensures refusal { IfOk result (λ m. m.refusal ≡ None) }
     {
-        let Ok(learned) = Learned::new(alloc, config.kinds.len()) else {
-            return Err(NoMemory);
-        };
+        let learned = Learned::new(config.kinds.len());
         Ok(Master {
             config,
             stage: Stage::Fresh,
@@ -176,7 +175,8 @@ impl Master {
         ensures made { self.old.refusal ≡ None → Makes L.step Settle self.old self.new (L.state link.old) (L.state link.new) result }
         ensures later { L.lost link.old ≤ L.lost link.new }
         ensures counted { RoseBy (self.new.lost - self.old.lost) (L.lost link.old) (L.lost link.new) }
-        ensures lost { (step : _) → result ≡ Err (Refused (Lost step)) → RoseBy (settle_frames_of self.old.config) (L.lost link.old) (L.lost link.new) }
+        ensures lost { (step : _) → result ≡ Err (Refused (Lost step))
+            → RoseBy (settle_frames_of self.old.config) (L.lost link.old) (L.lost link.new) }
         ensures caused { (r : _) → result ≡ Err (Refused r) → IsCause self.old.config Settle self.new.drifts self.new.words r }
     {
         if let Some(refusal) = self.refusal {

@@ -5,13 +5,12 @@
 //! prove why it gave up. It may tell the state of its segment, as a wire in memory does and a network
 //! cannot: then each exchange follows its step, which is a definition, and what a caller did over it
 //! is a matter of values alone. [`ScriptLink`] answers from a list of replies, for tests and proofs.
+//! [`try_frame`] sends one frame up to three times; it is for callers whose script is such tries alone
+//! (`specs/Tries.antt`). The master counts its tries itself, in `master_steps`.
 //!
 //! Callers are generic in the link. `specs/Exchanges.antt` has what one exchange and a list of them
 //! are, and `specs/Serves.antt` how a caller says in its contract that its exchanges are those that
 //! its script wants. [`laws`] has what is true of these.
-//!
-//! [`try_frame`] sends a frame up to three times, for callers other than the master. The master has a loop
-//! of its own, since it counts each try: `ask` in `master_steps/src/exchange.rt`.
 #![tactic(auto)]
 
 pub mod laws;

@@ -9,9 +9,10 @@ use crate::{Link, Lost};
 use ecat_frame::Frame;
 
 /// Sends a frame after a wait, up to three times, and answers what came back. None where all three are lost.
-/// It says nothing of the reply: a caller judges it. The master of this repository has a loop of its own (`ask` of `master_steps`).
+/// It says nothing of the reply: a caller judges it.
 pub fn try_frame<L: Link>(link: &mut L, wait_ns: u64, sent: &Frame) -> Option<Frame>
-    ensures tried { (lost : ℕ) × AreTries lost result × Runs L.step (L.state link.old) (tries wait_ns sent.now lost result) (L.state link.new) }
+    ensures tried { (lost : ℕ) × AreTries lost result
+        × Runs L.step (L.state link.old) (tries wait_ns sent.now lost result) (L.state link.new) }
     ensures later { L.lost link.old ≤ L.lost link.new }
     ensures lost { result ≡ None → RoseBy 3 (L.lost link.old) (L.lost link.new) }
     ensures valid { IsFrame sent.now }

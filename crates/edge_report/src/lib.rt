@@ -3,9 +3,9 @@
 //!
 //! [`delay_table`] is the table of measured delays, [`run_summary`] that of a whole run, and [`edges_csv`]
 //! a row for each edge, which [`edges_csv_behind`] appends to another text. Each is a function of the legal
-//! segment and of what a run gave: delays, counts of frames, the start, the edges. Of slaves it knows the kind
-//! (`esc_regs`), of SYNC units the edges (`sync_units`), and no frame, no register's content and no clock. The true
-//! delays and the bounds beside the measured ones are those of `segment_bounds`.
+//! segment and of the numbers that a run gave: delays, counts of frames, the start, the edges. Nothing here
+//! knows a frame, a register or a clock; the true delays and the bounds beside the measured ones are those
+//! of `segment_bounds`.
 //!
 //! `specs/` has a file for each kind of line, and `specs/Reports.antt` the texts; the [`laws`] say what
 //! spread and window mean together.

@@ -17,7 +17,7 @@ has_clock kind.C32 = true
 has_clock kind.C64 = true
 has_clock kind.R32 = false
 
--- the greatest number that its time has room for
+-- the greatest number that its time has room for; 2^32 - 1 stands for that of a slave without one, which nothing asks for
 abbrev pub greatest_start : ClockKind → ℕ
 greatest_start kind.None = 2 ^ 32 - 1
 greatest_start kind.C32 = 2 ^ 32 - 1

@@ -34,7 +34,7 @@ pub fn has_clock(kind: ClockKind) -> bool
     }
 }
 
-/// The greatest local time that a slave of this kind has room for.
+/// The greatest local time that a slave of this kind has room for; of one without a local time, that of 32 bits.
 pub fn greatest_start(kind: ClockKind) -> u64
     ensures { result ≡ greatest_start kind }
 {

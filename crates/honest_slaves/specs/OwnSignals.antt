@@ -13,7 +13,7 @@ abbrev pub has_signal : RowValue → Signal → Bool
 has_signal row Sync0 = is_clock row
 has_signal row Sync1 = is_clock row && is_some row.sync1_ns
 
--- which of the two signals the slave at a position has; what their windows ask for is `signals_at` of `segment_bounds`
+-- the signals of the slave at a position
 abbrev pub signals_at : SegmentValue → ℕ → Signal → Bool
 signals_at s p = has_signal (row_of s (row_at s p))
 

@@ -4,10 +4,10 @@
 //!
 //! A [`LocalClock`] stands at a true time, in fs, and shows a local time, in ns. [`LocalClock::advance`]
 //! takes all ticks of an interval at once, and [`LocalClock::first_reaching`] finds the tick at which the
-//! clock comes to a value by bisection: neither goes from tick to tick. What they answer is said tick by
-//! tick, in `specs/StepRule.antt`, `specs/Reading.antt` and `specs/FirstReaching.antt`. The [`laws`] say
-//! what follows from these: for any number of ticks, for a whole history of differences and resets, for the
-//! local time without wrap (`specs/LocalTime.antt`), and for the time since a clock received a difference
+//! clock comes to a value by bisection: neither goes from tick to tick. What they answer is said tick by tick, in
+//! `specs/StepRule.antt`, `specs/Reading.antt` and `specs/FirstReaching.antt`. What follows from these
+//! for any number of ticks, and for a whole history of differences and resets, is in the [`laws`]. Some of them
+//! speak of the local time without wrap (`specs/LocalTime.antt`), and of a clock since it received a difference
 //! (`specs/Since.antt`).
 #![tactic(auto)]
 

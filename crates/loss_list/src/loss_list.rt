@@ -6,8 +6,7 @@ use crate::loss_row::{LossRow, Phase};
 use std::alloc::{AllocError, Global};
 use std::marker::Model;
 
-/// The frames that are listed as lost, in the order of the file, and by kind and number: the table goes
-/// up to the greatest number that is listed.
+/// The frames that are listed as lost, in the order of the file, and by kind and number.
 #[derive(Debug, Drop)]
 pub struct LossList {
     rows: Vec<LossRow>,
@@ -60,7 +59,7 @@ impl LossList {
         Ok(LossList { rows, table })
     }
 
-    /// Puts a loss at the end. It is refused where memory runs out, and only there.
+    /// Puts a loss at the end. Its only error is that memory ran out.
     pub fn push(&mut self, row: LossRow) -> Result<(), AllocError>
         requires { (1 ≤ row.number) × (row.number ≤ 100000) }
         ensures ok { OnOk result (self.new ≡ self.old ++ row ∷ []) }

@@ -44,7 +44,8 @@ fn tree(slaves: &[SlaveWords], shape: &mut Shape) -> Result<(), TopologyError>
 fn judge_clocks(slaves: &[SlaveWords], shape: &Shape) -> Result<u16, Refusal>
     requires few { length slaves.now ≤ 256 }
     requires whole { length shape.now ≡ length slaves.now }
-    ensures is { result ≡ judged_clocks (first_timed shape.now (flag (map is_clock slaves.now))) (first_unmeasurable shape.now (flag (map is_measuring slaves.now))) }
+    ensures is { result ≡ judged_clocks (first_timed shape.now (flag (map is_clock slaves.now)))
+        (first_unmeasurable shape.now (flag (map is_measuring slaves.now))) }
     ensures within { IfOk result (λ r. r < length slaves.now) }
     ensures clocks { OnOk result (1 ≤ length (clocks slaves.now)) }
     ensures measuring { OnOk result (1 ≤ length (measuring slaves.now)) }

@@ -1,4 +1,4 @@
--- How far a script has come after some exchanges, be a frame of these lost or not: a fold over them.
+-- How far a script has come after some exchanges: a fold over them.
 use Rattle.std.specs.Prelude.{ℕ, ◌+◌, ◌-◌, ◌*◌, ◌%◌, ◌^◌, ◌==◌, if◌then◌else◌, List, [], ◌∷◌, ◌++◌, map, fold, replicate, Option, Some, None, Result, Ok, Err}
 use Rattle.ecat_frame.specs.FrameGrammar.{FrameValue}
 use Rattle.ecat_link.specs.Exchanges.{Exchange}

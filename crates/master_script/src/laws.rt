@@ -2,7 +2,7 @@
 //! matter of claims that depend on values, which no law can take: there the lemmas of `proofs/Asks.antt`,
 //! `proofs/Drifts.antt` and `proofs/Ends.antt` are what a layer above cites.
 
-ghost use Rattle.std.specs.Prelude.{◌≡◌, ◌≢◌, ◌↔◌, ℕ, ◌+◌, ◌*◌, ◌<◌, ◌≤◌, List, [], ◌∷◌, ◌++◌, length, map, Option, Some, None, Ok, Err, IsSome, slice_get, slice_index_or, true};
+ghost use Rattle.std.specs.Prelude.{option_map, ◌≡◌, ◌≢◌, ◌↔◌, ℕ, ◌+◌, ◌*◌, ◌<◌, ◌≤◌, List, [], ◌∷◌, ◌++◌, length, map, Option, Some, None, Ok, Err, IsSome, slice_get, slice_index_or, true};
 ghost use Rattle.dc_bounds.specs.Weight.{flag};
 ghost use Rattle.dc_delay.specs.Refusals.{first_unmeasurable};
 ghost use Rattle.dc_topology.specs.Listed.{Lists, Place};
@@ -19,6 +19,7 @@ ghost use Rattle.master_script.specs.Begins.{Begins};
 ghost use Rattle.master_script.specs.Config.{ConfigValue, settle_frames, slaves};
 ghost use Rattle.master_script.specs.Frames.{drift_datagram};
 ghost use Rattle.master_script.specs.Judged.{IsFirstMiscount, counters, judged};
+ghost use Rattle.master_script.specs.ReplyFaults.{refused_at, reply_fault};
 ghost use Rattle.master_script.specs.Kept.{Kept, StandsFor, kept_after, resting};
 ghost use Rattle.master_script.specs.ListedTree.{tree_of};
 ghost use Rattle.master_script.specs.Progress.{Arming, Commissioning, Running, Settling, arm_steps, progress};
@@ -152,7 +153,8 @@ pub fn drift_frames_follow_commissioning()
 
 /// `Reply` comes exactly where the reply differs from what was sent in a byte that may not, and names the
 /// first such byte. `Counter` comes exactly where there is none, and names the first counter that is not the
-/// expected one. Both name the step. A reply is accepted exactly where it has neither.
+/// expected one. Both name the step. A reply is accepted exactly where it has neither. What is wrong with it is the same
+/// without a step (`fault`).
 pub fn replies_are_judged()
     ensures reply { (step named : Step) (expected : List ℕ) (sent reply : FrameValue) (at : ℕ)
         → (judged step expected sent reply ≡ Some (Reply named at)) ↔ ((named ≡ step) × (first_difference sent reply ≡ Some at)) }
@@ -161,6 +163,8 @@ pub fn replies_are_judged()
         ↔ ((named ≡ step) × (first_difference sent reply ≡ None) × IsFirstMiscount expected (counters reply) e k) }
     ensures accepted { (step : Step) (expected : List ℕ) (sent reply : FrameValue) → length expected ≡ length reply.datagrams
         → (judged step expected sent reply ≡ None) ↔ ((first_difference sent reply ≡ None) × (counters reply ≡ expected)) }
+    ensures fault { (step : Step) (expected : List ℕ) (sent reply : FrameValue)
+        → judged step expected sent reply ≡ option_map (refused_at step) (reply_fault expected sent reply) }
 {}
 
 /// The tree of statuses is the one that they list, and its refusal is theirs.

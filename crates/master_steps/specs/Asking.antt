@@ -65,14 +65,17 @@ abbrev pub Asks : ConfigValue → Phase → Counters → Words → List Step →
 Asks cfg s n w todo es = progress cfg es ≡ turned (stood s n w todo) todo
 
 -- the first of these steps was refused
-pub record IsRefused (cfg : ConfigValue) (s : Phase) (n : Counters) (w : Words) (todo : List Step) (r : Refusal) (es : List Exchange) : Type 0 where
+pub record IsRefused (cfg : ConfigValue) (s : Phase) (n : Counters) (w : Words) (todo : List Step) (r : Refusal)
+    (es : List Exchange) : Type 0 where
   pub tries : ℕ
   pub place : progress cfg es ≡ record (stood s n w todo) { tries = tries; refused = Some r }
 
 -- the reply to a step came back and is to be judged
-pub record IsBack (cfg : ConfigValue) (s : Phase) (n : Counters) (w : Words) (step : Step) (rest : List Step) (sent reply : FrameValue) (es : List Exchange) : Type 0 where
+pub record IsBack (cfg : ConfigValue) (s : Phase) (n : Counters) (w : Words) (step : Step) (rest : List Step) (sent reply : FrameValue)
+    (es : List Exchange) : Type 0 where
   pub tries : ℕ
-  pub place : progress cfg es ≡ answered (record (stood s n w (step ∷ rest)) { tries = tries }) step rest reply (judged step (expected cfg w step reply) sent reply)
+  pub place : progress cfg es ≡ answered (record (stood s n w (step ∷ rest)) { tries = tries }) step rest reply
+      (judged step (expected cfg w step reply) sent reply)
 
 -- a step was sent up to three times
 abbrev pub AfterTries : ConfigValue → Phase → Counters → Words → Step → List Step → FrameValue → Option FrameValue → List Exchange → Type 0

@@ -12,10 +12,10 @@ ghost use Rattle.master_steps.specs.ConfigRange.{value_of};
 ghost use Rattle.master_steps.specs.Asking.{AfterTries, Asks, IsCounted, call_of, one_sent, phase_of};
 
 use crate::config::Config;
-use crate::learned::Learned;
 use dc_delay::DelayList;
 use ecat_frame::Frame;
 use ecat_link::{Link, Lost};
+use master_frames::Learned;
 use master_script::Step;
 
 /// How many frames were sent, how many of these were lost, and how many were drift frames.
@@ -77,7 +77,8 @@ pub(crate) fn ask<L: Link>(
     requires lost { counters.old.lost ≤ counters.old.sent }
     requires drifts { counters.old.drifts ≤ counters.old.sent }
     ensures serves { (w : Words) (rest : List AnyStep) → sent.now ≡ frame_of (value_of config.now) w step
-        → Serves L.step (script (value_of config.now) (call_of step)) (Asks (value_of config.now) (phase_of step) counters.old w (step ∷ rest))
+        → Serves L.step (script (value_of config.now) (call_of step))
+        (Asks (value_of config.now) (phase_of step) counters.old w (step ∷ rest))
         (L.state link.old) (L.state link.new) (AfterTries (value_of config.now) (phase_of step) counters.new w step rest sent.now result) }
     ensures sent { (counters.old.sent < counters.new.sent) × (counters.new.sent ≤ counters.old.sent + 3) }
     ensures fewer { counters.new.lost ≤ counters.new.sent }

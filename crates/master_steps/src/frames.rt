@@ -13,12 +13,11 @@ ghost use Rattle.master_script.specs.declared.step.Step.TheVariants.{Set};
 
 use crate::config::Config;
 use crate::exchange::Notes;
-use crate::learned::Learned;
 use crate::start_time::start;
 use ecat_frame::Frame;
 use master_frames::{
-    arm_frame, count_frame, drift_frame, identify_frame, latch_frame, rate_frame, set_frame,
-    times_frame,
+    Learned, arm_frame, count_frame, drift_frame, identify_frame, latch_frame, rate_frame,
+    set_frame, times_frame,
 };
 use master_script::{Step, SyncPlan};
 
@@ -62,7 +61,8 @@ pub(crate) fn frame(config: &Config, notes: &Notes, step: Step) -> Frame
 fn offset(config: &Config, notes: &Notes, position: u16) -> u64
     requires { CanAsk (value_of config.now) (words_of notes.now.learned) notes.now.delays.items (Set position) }
     ensures { (let w = words_of notes.now.learned in
-        little_bytes (width (wide_at w position)) result ≡ little_bytes (width (wide_at w position)) (offset_at (value_of config.now) w position)) }
+        little_bytes (width (wide_at w position)) result
+        ≡ little_bytes (width (wide_at w position)) (offset_at (value_of config.now) w position)) }
 {
     let delay_ns = delay_or_0(&notes.delays, position);
     config

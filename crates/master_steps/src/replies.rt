@@ -10,10 +10,9 @@ ghost use Rattle.master_script.specs.Judged.{judged};
 ghost use Rattle.master_script.specs.Steps.{expected, frame_of, learned as taught};
 
 use crate::config::Config;
-use crate::learned::Learned;
 use arrayvec::ArrayVec;
 use ecat_frame::Frame;
-use master_frames::{identified_from, latch_in, miscounted};
+use master_frames::{Learned, identified_from, latch_in, miscounted};
 use master_script::{Refusal, Step};
 
 /// Why the reply to a step is refused, if it is.

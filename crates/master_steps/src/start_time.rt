@@ -6,8 +6,8 @@ ghost use Rattle.master_script.specs.Slaves.{clocks};
 ghost use Rattle.master_script.specs.Words.{start_at};
 
 use crate::config::Config;
-use crate::learned::Learned;
 use dc_bounds::lead_ns;
+use master_frames::Learned;
 
 /// The first whole number of cycles behind the lead from the last time of the reference on, in ns, modulo 2^64.
 #[tactic(auto, unfolding(master_script::specs::Config::start_of))]

@@ -34,9 +34,11 @@ pub fn take<L: Link>(
     requires lost { notes.old.counters.lost ≤ notes.old.counters.sent }
     requires drifts { notes.old.counters.drifts ≤ notes.old.counters.sent }
     ensures serves { (rest : List AnyStep) → Serves L.step (script (value_of config.now) (call_of step))
-        (Asks (value_of config.now) (phase_of step) notes.old.counters (words_of notes.old.learned) (step ∷ rest)) (L.state link.old) (L.state link.new)
+        (Asks (value_of config.now) (phase_of step) notes.old.counters (words_of notes.old.learned) (step ∷ rest)) (L.state link.old)
+        (L.state link.new)
         (AfterStep (value_of config.now) (phase_of step) notes.new.counters (words_of notes.new.learned) step rest result) }
-    ensures learned { OnOk result ((f : FrameValue) × (words_of notes.new.learned ≡ learned notes.new.counters.sent step f (words_of notes.old.learned))) }
+    ensures learned { OnOk result ((f : FrameValue)
+        × (words_of notes.new.learned ≡ learned notes.new.counters.sent step f (words_of notes.old.learned))) }
     ensures stays { OnErr result (words_of notes.new.learned ≡ words_of notes.old.learned) }
     ensures delays { notes.new.delays.items ≡ notes.old.delays.items }
     ensures sent { (notes.old.counters.sent < notes.new.counters.sent) × (notes.new.counters.sent ≤ notes.old.counters.sent + 3) }
@@ -68,7 +70,8 @@ fn receive(
     requires config { IsConfig (value_of config.now) }
     requires sent { sent.now ≡ frame_of (value_of config.now) (words_of notes.old.learned) step }
     requires room { CanLearn (words_of notes.old.learned) step }
-    ensures is { IsReceived (value_of config.now) notes.old.counters.sent step sent.now reply.now (words_of notes.old.learned) (words_of notes.new.learned) result }
+    ensures is { IsReceived (value_of config.now) notes.old.counters.sent step sent.now reply.now (words_of notes.old.learned)
+        (words_of notes.new.learned) result }
     ensures valid { IsFrame reply.now }
     ensures counters { notes.new.counters ≡ notes.old.counters }
     ensures delays { notes.new.delays.items ≡ notes.old.delays.items }

@@ -3,4 +3,5 @@ mod Ending
 mod Calls
 mod FromStart
 mod Refused
+mod AtStart
 pub mod Exported

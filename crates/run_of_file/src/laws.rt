@@ -123,3 +123,28 @@ pub fn calls_make_runs_from()
         (Ends m.config (Run (frames_given s)) n answer)
         → IsAtEnd s (Some (frames_given s)) (ran_from s start) later n answer }
 {}
+
+/// A run from any state of the segment on is ended by a refusal as the run of a file is, and after a last phase that ends
+/// with Ok every clock goes on to the end of the run.
+pub fn refusals_end_runs_from()
+    ensures commissioned { (s : SegmentValue) (start state : SegmentState) (m : Kept) (e : MasterError)
+        → IsAtEnd s None (commissioned_from s start) state m (Err e) → IsAtEnd s None (run_from s start) state m (Err e) }
+    ensures settled { (s : SegmentValue) (start state : SegmentState) (m : Kept) (e : MasterError)
+        → IsAtEnd s None (settled_from s start) state m (Err e) → IsAtEnd s None (run_from s start) state m (Err e) }
+    ensures armed { (s : SegmentValue) (start state : SegmentState) (m : Kept) (e : MasterError)
+        → IsAtEnd s None (armed_from s start) state m (Err e) → IsAtEnd s None (run_from s start) state m (Err e) }
+    ensures ran { (s : SegmentValue) (start state : SegmentState) (m : Kept) (frames : Option ℕ) (e : MasterError)
+        → IsAtEnd s frames (ran_from s start) state m (Err e) → IsAtEnd s frames (run_from s start) state m (Err e) }
+    ensures whole { (s : SegmentValue) (start state : SegmentState) (m : Kept) (frames : Option ℕ)
+        → IsAtEnd s frames (ran_from s start) state m (Ok tt)
+        → IsAtEnd s frames (run_from s start) (finished (end_of_run s state) state) m (Ok tt) }
+{}
+
+/// The run of a file is the run from the state in which its segment begins.
+pub fn runs_begin_at_the_start()
+    ensures commissioned { (s : SegmentValue) → commissioned s ≡ commissioned_from s (started_segment s) }
+    ensures settled { (s : SegmentValue) → settled s ≡ settled_from s (started_segment s) }
+    ensures armed { (s : SegmentValue) → armed s ≡ armed_from s (started_segment s) }
+    ensures ran { (s : SegmentValue) → ran s ≡ ran_from s (started_segment s) }
+    ensures whole { (s : SegmentValue) → run_of s ≡ run_from s (started_segment s) }
+{}

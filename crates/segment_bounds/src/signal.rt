@@ -1,5 +1,4 @@
-/// A SYNC signal of a clock, by the numbers that its window asks for. Which of the two it is, SYNC0 or SYNC1, is said by
-/// the type of the same name in `sync_units`.
+/// A SYNC signal of a clock.
 #[derive(Clone, Copy, Debug, Default)]
 pub struct Signal {
     /// The row of the clock.

@@ -7,9 +7,6 @@
 //! frame period, clocks that come together, starts within reach, and few enough losses, frames and edges.
 //! A [`Segment`] is always legal.
 //!
-//! Which value is told where several are wrong, and which fault of a row, is said by `segment_shape`; the
-//! way from a bad value to the line that `dc` prints is drawn at the head of `seg_error.rt`.
-//!
 //! Contracts see a segment as its head, its rows and its losses (`specs/Segment.antt`). What a file says
 //! is in `specs/Placed.antt`, the checks in `specs/Faults.antt` and their order in `specs/Told.antt`.
 #![tactic(auto)]

@@ -9,9 +9,9 @@
 //! On the right is what each step says of `examples/refused/missing-port.json`, where slave 1 has a parent and no port:
 //!
 //! ```text
-//!  Key         segment_shape/src/value_at.rt, slave_row.rt   Port: missing, of a wrong type or range, or not of this row
-//!  RowFault    segment_shape/src/row_fault.rt                At(Port); Row: the row is no object, or has an unknown key
-//!              segment_shape/src/known_keys.rt               which keys are known
+//!  Key         segment_shape/src/value_at.rt, slave_row.rt   Port: the value is missing, or of a wrong type or range
+//!  RowFault    segment_shape/src/row_fault.rt                At(Port); Row: the row is no object, or has an unknown key,
+//!              segment_shape/src/known_keys.rt               which is looked at last: a key that is missing goes first
 //!  SlaveFault  segment_shape/src/slave_fault.rt              Own(At(Port)); Rate: of a row of the slave's rates
 //!  KeyPath     segment_shape/src/key_path.rt                 slaves[1].port; keys of the head, and losses, come here at once
 //!  ShapeError  segment_shape/src/shape_error.rt, shape.rt    Shape(slaves[1].port); also BadText, Twice and NoMemory
@@ -24,11 +24,6 @@
 //!  Outcome     dc_top/src/outcome.rt                         BadSegment(..): status 4, and the line
 //!  line        dc_cli/src/main.rt                            dc: segment: shape slaves[1].port
 //! ```
-//!
-//! One fault is told, the first. A row is first no object (Row); then its keys are judged in their order (At), missing ones
-//! among them, by `place_of` and `times_of` in slave_row.rt; and only then come unknown keys (Row). So where slave 1 has
-//! `cable` in place of `cable_ps`, the line ends in `slaves[1].cable_ps`; where it has `shift` in place of `shift_ns`,
-//! which it may leave out, in `slaves[1]`.
 
 ghost use Rattle.std.specs.Prelude.{◌≡◌};
 ghost use Rattle.segment_file.specs.declared.seg_error.SegError.TheVariants.{NoMemory};

@@ -5,14 +5,11 @@
 //! and the oscillators behind their clocks, and the frames that are lost on the way. It is a JSON
 //! object. [`read_shape`] checks in a fixed order, so that each file has one answer: the text is JSON,
 //! each value is of its type and in its range ([`KeyPath`] says where it is not), and no two rows have
-//! one id. What rows say of one another, as a tree of cables, is no part of the shape.
+//! one id. Of the shape the head comes first, with the keys beside it that are not known, then the slaves,
+//! then the losses; within a row the keys in their order, and last those that are not known. So a misspelt
+//! key is reported as the one that is missing, where it has to be there. What rows say of one another, as a tree of cables, is no part of the shape.
 //!
-//! The head comes first, then the slave rows, then the loss rows. In each of them the keys come in their
-//! order, missing ones among them, and keys that are not known come last: a misspelt key that a row must
-//! have is told as the missing one.
-//!
-//! Contracts see the file as a JSON value, and what it says is defined in `specs/ShapeOf.antt`; the keys and
-//! ranges are in `specs/Head.antt`, `specs/Slaves.antt`, `specs/Rates.antt` and `specs/Losses.antt`.
+//! Contracts see the file as a JSON value, and what it says is defined in `specs/ShapeOf.antt`.
 #![tactic(auto)]
 
 mod id;

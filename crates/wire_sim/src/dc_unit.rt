@@ -45,7 +45,8 @@ impl<W: ClockWord> Model for DcUnit<W> {
     ghost use Rattle.sync_units.specs.ClockCopy.{copy_of};
     ghost use Rattle.sync_units.specs.Quiet.{spare_of};
 
-    ghost invariant = { λ a. (a.spare ≤ spare_of W.WIDTH (copy_of W.WIDTH a.clock (W.number a.spare_offset)) a.sync) × (a.waits ≡ false → a.input ≡ None) };
+    ghost invariant = { λ a. (a.spare ≤ spare_of W.WIDTH (copy_of W.WIDTH a.clock (W.number a.spare_offset)) a.sync)
+        × (a.waits ≡ false → a.input ≡ None) };
 }
 
 /// The unit of a slave by the width of its clock.

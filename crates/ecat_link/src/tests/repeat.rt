@@ -8,7 +8,8 @@ use ecat_frame::Frame;
 
 /// Sends a frame `times` times, and answers how often it was lost.
 pub(super) fn repeat<L: Link>(link: &mut L, wait_ns: u64, frame: &Frame, times: u32) -> u32
-    ensures serves { let next : List Exchange → Next ℕ = λ es. if nat_lt (length es) times then Send wait_ns frame.now else End (lost_among es) in
+    ensures serves { let next : List Exchange → Next ℕ =
+        λ es. if nat_lt (length es) times then Send wait_ns frame.now else End (lost_among es) in
         Serves L.step next (λ before. before ≡ []) (L.state link.old) (L.state link.new) (λ after. next after ≡ End result) }
     ensures cause { RoseBy result (L.lost link.old) (L.lost link.new) }
 {

@@ -6,7 +6,7 @@ use Rattle.dc_master.proofs.Making.{stands_fresh}
 use Rattle.dc_master.proofs.master.Master.new.Goals as goal
 
 pub returns-clause-fresh : goal.returns-clause-fresh
-returns-clause-fresh c = fresh_is (value_of c.args.config) (words_of c.in-Ok.learned) c.new-2.result.items (c.in-Ok.ensures ∙ ap (λ n. nothing n) (search rules)) c.new-2.ensures
+returns-clause-fresh c = fresh_is (value_of c.args.config) (words_of c.new-learned.result) c.new.result.items (c.new-learned.ensures ∙ ap (λ n. nothing n) (search rules)) c.new.ensures
 
 pub invariant_of-result : goal.invariant_of-result
 invariant_of-result c =
@@ -15,6 +15,6 @@ invariant_of-result c =
       lost = omega arith;
       drifts = omega arith;
       started = λ h. absurd (omega (arith, h));
-      stage = record { sent = refl; lost = refl; drifts = refl; words = c.in-Ok.ensures ∙ ap (λ n. nothing n) (search rules); delays = c.new-2.ensures };
-      stands = stands_fresh _ refl (fresh_is (value_of c.args.config) (words_of c.in-Ok.learned) c.new-2.result.items (c.in-Ok.ensures ∙ ap (λ n. nothing n) (search rules)) c.new-2.ensures);
+      stage = record { sent = refl; lost = refl; drifts = refl; words = c.new-learned.ensures ∙ ap (λ n. nothing n) (search rules); delays = c.new.ensures };
+      stands = stands_fresh _ refl (fresh_is (value_of c.args.config) (words_of c.new-learned.result) c.new.result.items (c.new-learned.ensures ∙ ap (λ n. nothing n) (search rules)) c.new.ensures);
     }

@@ -4,15 +4,16 @@ ghost use Rattle.dc_bounds.specs.Weight.{flag};
 ghost use Rattle.dc_delay.specs.Latched.{measures};
 ghost use Rattle.master_script.specs.Slaves.{is_measuring, judgement, tree_told};
 ghost use Rattle.master_script.specs.Words.{delays_by};
-ghost use Rattle.master_steps.specs.Known.{words_of};
+ghost use Rattle.master_frames.specs.Known.{words_of};
 
+use crate::judgement::clocks;
+use crate::learned::Learned;
 use dc_delay::{DelayList, Kind, delays};
 use dc_topology::Shape;
-use master_frames::clocks;
-use master_steps::Learned;
 
-/// Computes the delays from the receive times of all slaves that measure.
-pub(crate) fn measure_delays(kinds: &[Kind], learned: &Learned, shape: &Shape, out: &mut DelayList)
+/// Computes the delays from the receive times of all slaves that measure, where these were judged and not refused. It says
+/// nothing of how near they are to the true ones.
+pub fn measure_delays(kinds: &[Kind], learned: &Learned, shape: &Shape, out: &mut DelayList)
     requires whole { length shape.now ≡ length (words_of learned.now).slaves }
     requires kinds { length kinds.now ≡ length (words_of learned.now).slaves }
     requires latches { length (words_of learned.now).latches ≡ length (words_of learned.now).slaves }

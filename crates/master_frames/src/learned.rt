@@ -1,13 +1,12 @@
-ghost use Rattle.std.specs.Prelude.{◌≡◌, ◌<◌, ◌≤◌, IfOk, length, map, None, slice_index_or};
+ghost use Rattle.std.specs.Prelude.{◌≡◌, ◌≤◌, length, map, None, replicate, slice_index_or};
 ghost use Rattle.dc_bounds.specs.Weight.{flag};
 ghost use Rattle.master_script.specs.Slaves.{is_clock, is_measuring, clocks, measuring};
 ghost use Rattle.master_script.specs.Words.{reference_of, unit_of, wide_at};
-ghost use Rattle.master_steps.specs.Known.{nothing, words_of};
+ghost use Rattle.master_frames.specs.Known.{nothing, words_of};
 
+use crate::slave_words::SlaveWords;
 use arrayvec::ArrayVec;
 use dc_delay::Latch;
-use master_frames::SlaveWords;
-use std::alloc::{AllocError, Global};
 use wrap_time::{ClockWord, T32};
 
 /// What a master has learned from replies.
@@ -18,7 +17,7 @@ pub struct Learned {
     /// The position of the reference, once the slaves are judged.
     pub reference: Option<u16>,
     /// By position, the receive times that were read.
-    pub latches: Vec<Option<Latch>>,
+    pub latches: ArrayVec<Option<Latch>, 256>,
     /// The number of the sending of the latch frame that came back; 0 before.
     pub latched: u32,
     /// The time of the reference in the last settle frame that came back, in ns.
@@ -26,30 +25,29 @@ pub struct Learned {
 }
 
 impl Learned {
-    /// Nothing is learned yet of so many slaves.
-    // The proof of a list of latches needs a value of the type of their times in sight, though no time is there yet.
-    pub fn new(alloc: Global, slaves: usize) -> Result<Learned, AllocError>
-        ensures { IfOk result (λ l. words_of l ≡ nothing slaves) }
+    /// Nothing is learned yet of so many slaves. It takes no memory.
+    pub fn new(slaves: usize) -> Learned
+        requires { slaves ≤ 256 }
+        ensures { words_of result ≡ nothing slaves }
     {
-        let _time = T32::cut(0);
-        let latches = vec![in alloc; None; slaves]?;
-        Ok(Learned {
+        Learned {
             slaves: ArrayVec::new(),
             reference: None,
-            latches,
+            latches: unread(slaves),
             latched: 0,
             time: None,
-        })
+        }
     }
 
+    /// The position of the reference, 0 where it is not known.
     pub fn reference_or_0(&self) -> u16
         ensures { result ≡ reference_of (words_of self.now) }
     {
         self.reference.unwrap_or(0)
     }
 
-    /// Whether the times of the slave at a position have 64 bits.
-    pub(crate) fn is_wide(&self, position: u16) -> bool
+    /// Whether the times of the slave at a position have 64 bits; not where there is none.
+    pub fn is_wide(&self, position: u16) -> bool
         ensures { result ≡ wide_at (words_of self.now) position }
     {
         match self.slaves.get(usize::from(position)) {
@@ -58,8 +56,8 @@ impl Learned {
         }
     }
 
-    /// The receive time at the processing unit of the slave at a position.
-    pub(crate) fn unit(&self, position: u16) -> u64
+    /// The receive time at the processing unit of the slave at a position, 0 where it was not read. It says nothing of its width.
+    pub fn unit(&self, position: u16) -> u64
         ensures { result ≡ unit_of (slice_index_or (words_of self.now).latches position None) }
     {
         match self.latches.get(usize::from(position)) {
@@ -88,8 +86,8 @@ impl Learned {
         }
     }
 
-    /// N_m, the number of slaves that measure.
-    pub(crate) fn measuring(&self) -> u16
+    /// N_m, the number of slaves that measure, of those that told what they are so far.
+    pub fn measuring(&self) -> u16
         ensures is { result ≡ length (measuring (words_of self.now).slaves) }
         ensures few { result ≤ 256 }
     {
@@ -102,7 +100,7 @@ impl Learned {
         count
     }
 
-    /// N_c, the number of clocks.
+    /// N_c, the number of clocks, of those that told what they are so far.
     pub fn clocks(&self) -> u16
         ensures is { result ≡ length (clocks (words_of self.now).slaves) }
         ensures few { result ≤ 256 }
@@ -115,4 +113,16 @@ impl Learned {
         }
         count
     }
+}
+
+// So many slaves whose receive times were not read. The proof of a list of latches needs a value of the type of their times in
+// sight, though no time is there yet.
+fn unread(slaves: usize) -> ArrayVec<Option<Latch>, 256>
+    requires { slaves ≤ 256 }
+    ensures { result.items ≡ replicate slaves None }
+{
+    let _time = T32::cut(0);
+    let mut latches = ArrayVec::from([None; 256]);
+    latches.truncate(slaves);
+    latches
 }

@@ -1,7 +1,7 @@
 use Rattle.std.proofs.Common.{◌≡◌, ◌+◌, ◌≤◌, length, map}
 use Rattle.dc_bounds.specs.Weight.{flag}
-use Rattle.master_frames.proofs.Exported.{left}
-use Rattle.master_steps.proofs.learned.Learned.measuring.Given as goal
+use Rattle.master_frames.proofs.Left.{left}
+use Rattle.master_frames.proofs.learned.Learned.measuring.Given as goal
 use Rattle.master_script.specs.Slaves.{is_measuring, measuring}
 
 abbrev pub invariant-loop-position : goal.invariant-loop-position

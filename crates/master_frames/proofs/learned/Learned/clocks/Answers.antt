@@ -1,8 +1,8 @@
 use Rattle.std.proofs.Common.{◌<◌, length, map, ap, sym, ◌∙◌, List, ℕ, arith}
 use Rattle.dc_bounds.specs.Weight.{flag}
-use Rattle.master_frames.proofs.Exported.{left_no, length_yes}
-use Rattle.master_steps.proofs.learned.Learned.clocks.Goals as goal
-use Rattle.master_steps.proofs.learned.Learned.clocks.Goals.{then-is_clock, else-is_clock}
+use Rattle.master_frames.proofs.Left.{left_no, length_yes}
+use Rattle.master_frames.proofs.learned.Learned.clocks.Goals as goal
+use Rattle.master_frames.proofs.learned.Learned.clocks.Goals.{then-is_clock, else-is_clock}
 use Rattle.master_script.specs.Slaves.{is_clock}
 
 pub loop-position-preserved : goal.loop-position-preserved
