@@ -18,4 +18,6 @@ pub mod Runs
 pub mod BehindLatch
 pub mod Readings
 pub mod Times
+pub mod References
+pub mod FewBehind
 pub mod Exported

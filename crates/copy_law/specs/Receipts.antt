@@ -1,5 +1,5 @@
 -- What the drift frames of a run bring the clocks of its segment.
-use Rattle.std.specs.Prelude.{◌≡◌, ℕ, ◌+◌, ◌*◌, ◌%◌, ◌^◌, ◌==◌, ◌&&◌, not, nat_lt, Bool, true, List, [], ◌∷◌, ◌++◌, length, Option, Some, None, if◌then◌else◌}
+use Rattle.std.specs.Prelude.{◌≡◌, ℕ, ◌+◌, ◌*◌, ◌%◌, ◌^◌, ◌==◌, ◌&&◌, not, nat_lt, Bool, List, [], ◌∷◌, ◌++◌, length, Option, Some, None, if◌then◌else◌}
 use Rattle.cable_tree.specs.Positions.{position_of}
 use Rattle.dc_bounds.specs.LockNumbers.{period_fs}
 use Rattle.ecat_link.specs.Exchanges.{Exchange, Runs}
