@@ -2,3 +2,4 @@ pub mod Untouched
 pub mod Receipts
 pub mod HeldOffsets
 pub mod SinceLatch
+pub mod Speeds

@@ -2,6 +2,7 @@
 //! frames bring.
 
 ghost use Rattle.std.specs.Prelude.{◌≡◌, ℕ, Some, ◌≢◌, ◌+◌, ◌*◌, ◌<◌, ◌≤◌, [], ◌∷◌, true, length, slice_get, if◌then◌else◌, ◌%◌, ◌^◌};
+ghost use Rattle.copy_law.specs.Speeds.{AllCorrect};
 ghost use Rattle.copy_law.specs.Untouched.{AreLasting, CorrectAlike, HoldAlike, IsUntouched, WriteNone};
 ghost use Rattle.frame_pass.specs.SegmentState.{phase_of, SegmentState, leaves_at};
 ghost use Rattle.master_script.specs.Config.{ConfigValue};
@@ -139,6 +140,16 @@ pub fn few_follow_the_latch()
     ensures within { (s : SegmentValue) (run : RunEnd) → IsCommissioned s run → (words_after s run).latched ≤ length run.exchanges }
     ensures few { (s : SegmentValue) (run : RunEnd) → IsCommissioned s run
         → length run.exchanges ≤ (words_after s run).latched + 3 * measuring s.rows + 3 * clocks s.rows }
+{}
+
+/// Where commissioning ends with Ok, each clock takes as many ticks to a correction as the file's speed says, and so after each later
+/// phase and to the end of the run. A slave that only measures receive times refuses the speed, and nothing is said of it.
+pub fn speeds_are_set()
+    ensures commissioned { (s : SegmentValue) (run : RunEnd) → IsCommissioned s run → AllCorrect s run.state.slaves }
+    ensures settled { (s : SegmentValue) (first run : RunEnd) → IsCommissioned s first → settled s ≡ Some run → AllCorrect s run.state.slaves }
+    ensures armed { (s : SegmentValue) (first run : RunEnd) → IsCommissioned s first → armed s ≡ Some run → AllCorrect s run.state.slaves }
+    ensures ran { (s : SegmentValue) (first run : RunEnd) → IsCommissioned s first → ran s ≡ Some run → AllCorrect s run.state.slaves }
+    ensures whole { (s : SegmentValue) (first run : RunEnd) → IsCommissioned s first → run_of s ≡ Some run → AllCorrect s run.state.slaves }
 {}
 
 /// In the run of a file a clock other than the reference receives a difference from drift frame k exactly where that frame comes to it: the
