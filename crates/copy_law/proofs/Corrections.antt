@@ -54,7 +54,7 @@ same_reset : (o : Option ℕ) (m : Measuring) → o ≡ None → g_of (reset_by 
 unfolding reset_by
 same_reset o m none = rw none refl
 
-same_activated : (o : Option ℕ) (m : Measuring) → g_of (activated o m) ≡ g_of m
+pub same_activated : (o : Option ℕ) (m : Measuring) → g_of (activated o m) ≡ g_of m
 unfolding activated
 same_activated None m = refl
 same_activated (Some byte) m = by (arms byte m.registers) refl
@@ -109,7 +109,7 @@ same_port sent end addr (Some at) s = by (comes_by end at) refl
     by true e = rw e (same_on (port_latched addr) a a.timing refl (λ m. refl) ∙ same_advanced (sent + at) s)
     by false e = rw e refl
 
-same_ports : (sent : ℕ) (end : Option ℕ) (b : Bool) (s : Slave) → ticks_to_correction (when_latching b sent end s) ≡ ticks_to_correction s
+pub same_ports : (sent : ℕ) (end : Option ℕ) (b : Bool) (s : Slave) → ticks_to_correction (when_latching b sent end s) ≡ ticks_to_correction s
 unfolding ports_taken
 same_ports sent end false s = refl
 same_ports sent end true s =

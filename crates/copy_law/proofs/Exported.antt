@@ -12,3 +12,10 @@ pub use Rattle.copy_law.proofs.Held.{settled_holds, armed_holds, ran_holds}
 pub use Rattle.copy_law.proofs.Drifting.{begins_behind, frame_there, last_behind, found_behind, left_behind, same_first, same_before, one_behind, last_frame, behind_induction}
 -- What holds of these states: the run as if it ended there, what drift frames keep of slaves, and the rest of the law.
 pub use Rattle.copy_law.proofs.Standing.{cut, from_start, scripted, drifted, behind_alike, stands_behind}
+-- The reference of a file is the clock that commissioning finds.
+pub use Rattle.copy_law.proofs.First.{reference_low, reference_clock, behind_reference}
+pub use Rattle.copy_law.proofs.References.{clock_measures, is_first_clock, in_bounds, keeps_time, counts, is_told, has_no_delay}
+-- How many frames of commissioning follow the Latch that came back.
+pub use Rattle.copy_law.proofs.FewBehind.{some_latched, latched_within, few_behind}
+-- Each clock corrects as the file's speed says.
+pub use Rattle.copy_law.proofs.Rated.{commissioned_correct, settled_correct, armed_correct, ran_correct, whole_correct}

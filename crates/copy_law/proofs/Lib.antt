@@ -20,4 +20,8 @@ pub mod BehindLatch
 mod Standing
 pub mod Readings
 pub mod Times
+pub mod References
+pub mod FewBehind
+pub mod RateFrames
+pub mod Rated
 pub mod Exported

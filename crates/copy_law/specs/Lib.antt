@@ -3,3 +3,4 @@ pub mod Receipts
 pub mod HeldOffsets
 pub mod SinceLatch
 pub mod Drifting
+pub mod Speeds

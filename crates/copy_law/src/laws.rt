@@ -1,7 +1,8 @@
 //! What stays in the slaves of a legal segment after commissioning, what commissioning has left there, and what drift
 //! frames bring.
 
-ghost use Rattle.std.specs.Prelude.{◌≡◌, ℕ, Some, ◌≢◌, ◌+◌, ◌<◌, ◌≤◌, [], ◌∷◌, true, length, slice_get, if◌then◌else◌, ◌%◌, ◌^◌};
+ghost use Rattle.std.specs.Prelude.{◌≡◌, ℕ, Some, ◌≢◌, ◌+◌, ◌*◌, ◌<◌, ◌≤◌, [], ◌∷◌, true, length, slice_get, if◌then◌else◌, ◌%◌, ◌^◌};
+ghost use Rattle.copy_law.specs.Speeds.{AllCorrect};
 ghost use Rattle.copy_law.specs.Untouched.{AreLasting, CorrectAlike, HoldAlike, IsUntouched, WriteNone};
 ghost use Rattle.frame_pass.specs.SegmentState.{phase_of, SegmentState, leaves_at, segment_step};
 ghost use Rattle.master_script.specs.Config.{ConfigValue};
@@ -10,7 +11,11 @@ ghost use Rattle.master_script.specs.Words.{Words, delay_at, offset_at};
 ghost use Rattle.master_script.specs.declared.step.Step.{Step};
 ghost use Rattle.run_of_file.specs.RunOfFile.{RunEnd, armed, commissioned, ran, run_of, settled};
 ghost use Rattle.segment_file.specs.Legal.{IsLegal};
-ghost use Rattle.segment_file.specs.Segment.{SegmentValue, clock_at, row_at};
+ghost use Rattle.segment_file.specs.Segment.{SegmentValue, clock_at, clocks, measuring, oscillator, row_at, tree_rows};
+ghost use Rattle.cable_tree.specs.Positions.{position_of};
+ghost use Rattle.dc_bounds.specs.TickFacts.{IsWithin};
+ghost use Rattle.osc_clock.specs.Ticks.{IsRunning};
+ghost use Rattle.segment_bounds.specs.Bounds.{reference_row_of};
 ghost use Rattle.loss_list.specs.declared.loss_row.Phase.TheVariants as phase;
 ghost use Rattle.frame_pass.specs.ReceiveTimes.{IsReceiveTime};
 ghost use Rattle.copy_law.specs.Receipts.{IsDriftFrame, IsReference, brought, receipt, receives, sent_at};
@@ -112,6 +117,40 @@ pub fn system_times_begin_at_the_epoch()
         → IsSinceLatch s run p v m t
         → system_time (measuring_at t (record { registers = v.registers; timing = m }))
         ≡ (s.head.epoch_ns + counted_ns s (words_after s run) p t) % 2 ^ width (row_there s p).kind }
+{}
+
+/// The reference of a file, the first of its clocks in frame order, is the one that the master finds in commissioning, and the one
+/// that the bounds take. Its slave has a clock, which runs within the file's ppm, and its measured delay is 0.
+pub fn references_are_told()
+    ensures told { (s : SegmentValue) (run : RunEnd) (r : ℕ) → IsCommissioned s run → IsReference s r → (words_after s run).reference ≡ Some r }
+    ensures bounds { (s : SegmentValue) (r : ℕ) → IsLegal s → IsReference s r → position_of (tree_rows s.rows) (reference_row_of s) ≡ r }
+    ensures low { (s : SegmentValue) (r : ℕ) → IsLegal s → IsReference s r → r < length s.rows }
+    ensures clock { (s : SegmentValue) (r : ℕ) → IsLegal s → IsReference s r → has_clock (kind_at s r) ≡ true }
+    ensures delay { (s : SegmentValue) (run : RunEnd) (r : ℕ) → IsCommissioned s run → IsReference s r
+        → delay_at (master_of s) (words_after s run) r ≡ 0 }
+    ensures time { (s : SegmentValue) (r : ℕ) → IsLegal s → IsReference s r
+        → IsRunning (oscillator (row_there s r)) × IsWithin s.head.ppm (oscillator (row_there s r)) }
+    ensures counts { (s : SegmentValue) (run : RunEnd) (r : ℕ) (v : Slave) → IsCommissioned s run → IsReference s r
+        → slice_get run.state.slaves r ≡ Some v → (m : Timing) × (v.timing ≡ Some m) }
+{}
+
+/// Behind the Latch that came back commissioning sends at most three frames for each slave that measures, which is asked its Times, and
+/// three for each clock, whose offset and delay are Set. So the clocks were latched at most so many frame periods before its end.
+pub fn few_follow_the_latch()
+    ensures some { (s : SegmentValue) (run : RunEnd) → IsCommissioned s run → 0 < (words_after s run).latched }
+    ensures within { (s : SegmentValue) (run : RunEnd) → IsCommissioned s run → (words_after s run).latched ≤ length run.exchanges }
+    ensures few { (s : SegmentValue) (run : RunEnd) → IsCommissioned s run
+        → length run.exchanges ≤ (words_after s run).latched + 3 * measuring s.rows + 3 * clocks s.rows }
+{}
+
+/// Where commissioning ends with Ok, each clock takes as many ticks to a correction as the file's speed says, and so after each later
+/// phase and to the end of the run. A slave that only measures receive times refuses the speed, and nothing is said of it.
+pub fn speeds_are_set()
+    ensures commissioned { (s : SegmentValue) (run : RunEnd) → IsCommissioned s run → AllCorrect s run.state.slaves }
+    ensures settled { (s : SegmentValue) (first run : RunEnd) → IsCommissioned s first → settled s ≡ Some run → AllCorrect s run.state.slaves }
+    ensures armed { (s : SegmentValue) (first run : RunEnd) → IsCommissioned s first → armed s ≡ Some run → AllCorrect s run.state.slaves }
+    ensures ran { (s : SegmentValue) (first run : RunEnd) → IsCommissioned s first → ran s ≡ Some run → AllCorrect s run.state.slaves }
+    ensures whole { (s : SegmentValue) (first run : RunEnd) → IsCommissioned s first → run_of s ≡ Some run → AllCorrect s run.state.slaves }
 {}
 
 /// In the run of a file a clock other than the reference receives a difference from drift frame k exactly where that frame comes to it: the

@@ -16,6 +16,11 @@
 //! is therefore the epoch, and 10 ns for each of its ticks since that arrival
 //! ([`laws::system_times_begin_at_the_epoch`]).
 //!
+//! **How it leaves them.** The reference of a file, the first of its clocks in frame order, is the one that the master
+//! finds, and has no delay ([`laws::references_are_told`]). After the Latch that came back at most three frames follow
+//! for each slave that measures, and three for each clock ([`laws::few_follow_the_latch`]). And each clock takes as
+//! many ticks to a correction as the file's speed says, to the end of the run ([`laws::speeds_are_set`]).
+//!
 //! **What drift frames bring.** Each drift frame that comes to a clock which is not the reference brings it the
 //! difference of two system times: its own and the reference's, each at the frame's arrival there. It brings no
 //! other slave anything, and of `loss_run` + 1 in a row one comes to each such clock
