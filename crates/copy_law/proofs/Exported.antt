@@ -12,3 +12,5 @@ pub use Rattle.copy_law.proofs.Held.{settled_holds, armed_holds, ran_holds}
 pub use Rattle.copy_law.proofs.Drifting.{begins_behind, frame_there, last_behind, found_behind, left_behind, same_first, same_before, one_behind, last_frame, behind_induction}
 -- What holds of these states: the run as if it ended there, what drift frames keep of slaves, and the rest of the law.
 pub use Rattle.copy_law.proofs.Standing.{cut, from_start, scripted, drifted, behind_alike, stands_behind}
+-- The clocks of a run by their histories, whatever exchanges have passed since the start of the file.
+pub use Rattle.copy_law.proofs.History.{history_then, history_one, file_first, file_step, running, has_there, has_behind}
