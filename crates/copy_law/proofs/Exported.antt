@@ -19,3 +19,5 @@ pub use Rattle.copy_law.proofs.References.{clock_measures, is_first_clock, in_bo
 pub use Rattle.copy_law.proofs.FewBehind.{some_latched, latched_within, few_behind}
 -- Each clock corrects as the file's speed says.
 pub use Rattle.copy_law.proofs.Rated.{commissioned_correct, settled_correct, armed_correct, ran_correct, whole_correct}
+-- The clocks of a run by their histories, whatever exchanges have passed since the start of the file.
+pub use Rattle.copy_law.proofs.History.{history_then, history_one, file_first, file_step, running, has_there, has_behind}

@@ -18,6 +18,7 @@ pub mod Delays
 pub mod Runs
 pub mod BehindLatch
 mod Standing
+mod History
 pub mod Readings
 pub mod Times
 pub mod References

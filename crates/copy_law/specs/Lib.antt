@@ -4,3 +4,5 @@ pub mod HeldOffsets
 pub mod SinceLatch
 pub mod Drifting
 pub mod Speeds
+pub mod History
+pub mod WholeTimes

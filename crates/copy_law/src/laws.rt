@@ -1,7 +1,7 @@
 //! What stays in the slaves of a legal segment after commissioning, what commissioning has left there, and what drift
 //! frames bring.
 
-ghost use Rattle.std.specs.Prelude.{◌≡◌, ℕ, Some, ◌≢◌, ◌+◌, ◌*◌, ◌<◌, ◌≤◌, [], ◌∷◌, true, length, slice_get, if◌then◌else◌, ◌%◌, ◌^◌};
+ghost use Rattle.std.specs.Prelude.{◌++◌, ◌≡◌, ℕ, Some, ◌≢◌, ◌+◌, ◌*◌, ◌<◌, ◌≤◌, [], ◌∷◌, true, length, slice_get, if◌then◌else◌, ◌%◌, ◌^◌};
 ghost use Rattle.copy_law.specs.Speeds.{AllCorrect};
 ghost use Rattle.copy_law.specs.Untouched.{AreLasting, CorrectAlike, HoldAlike, IsUntouched, WriteNone};
 ghost use Rattle.frame_pass.specs.SegmentState.{phase_of, SegmentState, leaves_at, segment_step};
@@ -33,6 +33,8 @@ ghost use Rattle.run_of_file.specs.MasterOfFile.{master_of};
 ghost use Rattle.delay_law.specs.Resting.{row_there, shown_at};
 ghost use Rattle.copy_law.specs.HeldOffsets.{AreSet, HoldsSet};
 ghost use Rattle.copy_law.specs.Drifting.{IsBehind, StandsBehind};
+ghost use Rattle.copy_law.specs.History.{clock_of, history_from};
+ghost use Rattle.frame_pass.specs.ClockHistory.{HasHistory};
 ghost use Rattle.copy_law.specs.SinceLatch.{IsSinceLatch, counted_ns, latch_arrival};
 
 /// A drift frame of the script writes the system time, and the activation, the start time and the cycle times of a SYNC unit, and
@@ -191,4 +193,13 @@ pub fn drift_frames_follow()
 /// periods, and the next one leaves a period later. Each clock holds the offset and the delay that commissioning left.
 pub fn states_stand()
     ensures { (s : SegmentValue) (k : ℕ) (t : SegmentState) → IsLegal s → (behind : IsBehind s k t) → StandsBehind s behind.first k t }
+{}
+
+/// Behind any number of drift frames the told clock of a slave is that of its history: its start by the file, and what each frame since the first
+/// one of the run brought it.
+pub fn clocks_have_histories()
+    ensures { (s : SegmentValue) (k p : ℕ) (t : SegmentState) (v : Slave) → IsLegal s → (behind : IsBehind s k t)
+        → slice_get t.slaves p ≡ Some v → has_clock (kind_at s p) ≡ true
+        → HasHistory (width (kind_at s p)) (clock_of (row_there s p))
+        (history_from (started_segment s) (behind.first.exchanges ++ behind.before) p) v }
 {}
