@@ -10,4 +10,5 @@ use Rattle.copy_law.specs.Untouched.{ticks_to_correction}
 -- each clock takes as many ticks to a correction as the file's speed says; a slave that only measures receive times is not asked
 abbrev pub AllCorrect : SegmentValue → List Slave → Type 0
 AllCorrect s ss =
-    (p : ℕ) (v : Slave) → slice_get ss p ≡ Some v → has_clock (kind_at s p) ≡ true → ticks_to_correction v ≡ Some (ticks_by_speed s.head.speed)
+    (p : ℕ) (v : Slave) → slice_get ss p ≡ Some v → has_clock (kind_at s p) ≡ true
+    → ticks_to_correction v ≡ Some (ticks_by_speed s.head.speed)

@@ -124,7 +124,8 @@ pub fn system_times_begin_at_the_epoch()
 /// The reference of a file, the first of its clocks in frame order, is the one that the master finds in commissioning, and the one
 /// that the bounds take. Its slave has a clock, which runs within the file's ppm, and its measured delay is 0.
 pub fn references_are_told()
-    ensures told { (s : SegmentValue) (run : RunEnd) (r : ℕ) → IsCommissioned s run → IsReference s r → (words_after s run).reference ≡ Some r }
+    ensures told { (s : SegmentValue) (run : RunEnd) (r : ℕ) → IsCommissioned s run → IsReference s r
+        → (words_after s run).reference ≡ Some r }
     ensures bounds { (s : SegmentValue) (r : ℕ) → IsLegal s → IsReference s r → position_of (tree_rows s.rows) (reference_row_of s) ≡ r }
     ensures low { (s : SegmentValue) (r : ℕ) → IsLegal s → IsReference s r → r < length s.rows }
     ensures clock { (s : SegmentValue) (r : ℕ) → IsLegal s → IsReference s r → has_clock (kind_at s r) ≡ true }
@@ -149,7 +150,8 @@ pub fn few_follow_the_latch()
 /// phase and to the end of the run. A slave that only measures receive times refuses the speed, and nothing is said of it.
 pub fn speeds_are_set()
     ensures commissioned { (s : SegmentValue) (run : RunEnd) → IsCommissioned s run → AllCorrect s run.state.slaves }
-    ensures settled { (s : SegmentValue) (first run : RunEnd) → IsCommissioned s first → settled s ≡ Some run → AllCorrect s run.state.slaves }
+    ensures settled { (s : SegmentValue) (first run : RunEnd) → IsCommissioned s first → settled s ≡ Some run
+        → AllCorrect s run.state.slaves }
     ensures armed { (s : SegmentValue) (first run : RunEnd) → IsCommissioned s first → armed s ≡ Some run → AllCorrect s run.state.slaves }
     ensures ran { (s : SegmentValue) (first run : RunEnd) → IsCommissioned s first → ran s ≡ Some run → AllCorrect s run.state.slaves }
     ensures whole { (s : SegmentValue) (first run : RunEnd) → IsCommissioned s first → run_of s ≡ Some run → AllCorrect s run.state.slaves }
