@@ -14,7 +14,7 @@ pub use Rattle.copy_law.proofs.Drifting.{begins_behind, frame_there, last_behind
 pub use Rattle.copy_law.proofs.Standing.{cut, from_start, scripted, drifted, behind_alike, stands_behind}
 -- The reference of a file is the clock that commissioning finds.
 pub use Rattle.copy_law.proofs.First.{reference_low, reference_clock, behind_reference}
-pub use Rattle.copy_law.proofs.References.{clock_measures, is_first_clock, in_bounds, keeps_time, counts, is_told, has_no_delay}
+pub use Rattle.copy_law.proofs.References.{is_first_clock, in_bounds, keeps_time, counts, is_told, has_no_delay}
 -- How many frames of commissioning follow the Latch that came back.
 pub use Rattle.copy_law.proofs.FewBehind.{some_latched, latched_within, few_behind}
 -- Each clock corrects as the file's speed says.

@@ -41,7 +41,7 @@ use Rattle.copy_law.specs.Untouched.{ticks_to_correction}
 use Rattle.copy_law.proofs.Corrections.{same_passed}
 use Rattle.copy_law.proofs.Held.{alike_at, armed_alike, ran_alike, settled_alike, whole_alike}
 use Rattle.copy_law.proofs.RateFrames.{rate_frame, rated_passed}
-use Rattle.copy_law.proofs.References.{clock_measures}
+use Rattle.copy_law.proofs.Readings.{clock_measures}
 use Rattle.copy_law.proofs.Slaves.{corrections_kept}
 use Rattle.copy_law.proofs.Untouching.{speed_untouched}
 

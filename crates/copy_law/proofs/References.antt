@@ -1,11 +1,8 @@
 -- The reference of a file is the clock that its commissioning finds.
-use Rattle.std.proofs.Common.{◌≡◌, ℕ, true, Option, Some, Ok, refl, sym, ap, ◌∙◌}
+use Rattle.std.proofs.Common.{◌≡◌, ℕ, Option, Some, Ok, sym, ap, ◌∙◌}
 use Rattle.std.specs.Prelude.{slice_get, unwrap_or}
 use Rattle.cable_tree.specs.Positions.{position_of}
 use Rattle.dc_bounds.specs.TickFacts.{IsWithin}
-use Rattle.esc_regs.specs.Kinds.{has_clock, measures}
-use Rattle.esc_regs.specs.declared.clock_kind.ClockKind.{ClockKind}
-use Rattle.esc_regs.specs.declared.clock_kind.ClockKind.TheVariants as kind
 use Rattle.frame_pass.specs.SlaveState.{Slave, Timing}
 use Rattle.honest_slaves.specs.FileSlaves.{kind_at}
 use Rattle.master_script.specs.Words.{delay_at}
@@ -21,17 +18,10 @@ use Rattle.delay_law.specs.Resting.{row_there}
 use Rattle.delay_law.proofs.Exported.{first_clock, has_there, keeps_there, late, way_of}
 use Rattle.copy_law.specs.Receipts.{IsReference}
 use Rattle.copy_law.proofs.First.{reference_clock, reference_low}
-use Rattle.copy_law.proofs.Readings.{reference_delay}
+use Rattle.copy_law.proofs.Readings.{clock_measures, reference_delay}
 
 some_same : {X : Type 0} {x y : X} → Some x ≡ Some y → x ≡ y
 some_same e = cc
-
--- a clock measures
-pub clock_measures : (k : ClockKind) → has_clock k ≡ true → measures k ≡ true
-clock_measures kind.None e = absurd (let z = e in cc)
-clock_measures kind.R32 e = refl
-clock_measures kind.C32 e = refl
-clock_measures kind.C64 e = refl
 
 module _ (s : SegmentValue) (legal : IsLegal s) (r : ℕ) (reference : IsReference s r) where
   pub is_first_clock : first_clock s legal ≡ r
