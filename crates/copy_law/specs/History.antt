@@ -31,8 +31,8 @@ clock_of row = started (oscillator row) row.start first_rate
 abbrev pub offset_of : SegmentState → ℕ → ℕ
 offset_of t p = option_map_or (λ v. offset v.registers) (slice_get t.slaves p) 0
 
--- The local copy at true time t, as a word of the clock's width, whether or not the told state was advanced to t: by the history of the clock in the
--- whole run, and the offset that it holds at the end.
+-- The local copy at true time t, as a word of the clock's width, whether or not the told state was advanced to t: by the history of
+-- the clock in the whole run, and the offset that it holds at the end.
 abbrev pub copy_of_run : SegmentValue → RunEnd → ℕ → ℕ → ℕ
 copy_of_run s run p t =
     copy_at (width (kind_at s p)) (clock_of (row_there s p)) (history_from (started_segment s) run.exchanges p) (offset_of run.state p) t

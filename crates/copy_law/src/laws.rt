@@ -137,7 +137,7 @@ pub fn references_are_told()
         → slice_get run.state.slaves r ≡ Some v → (m : Timing) × (v.timing ≡ Some m) }
 {}
 
-/// Behind the Latch that came back commissioning sends at most three frames for each slave that measures, which is asked its Times, and
+/// After the Latch that came back commissioning sends at most three frames for each slave that measures, which is asked its Times, and
 /// three for each clock, whose offset and delay are Set. So the clocks were latched at most so many frame periods before its end.
 pub fn few_follow_the_latch()
     ensures some { (s : SegmentValue) (run : RunEnd) → IsCommissioned s run → 0 < (words_after s run).latched }
@@ -197,8 +197,8 @@ pub fn states_stand()
     ensures { (s : SegmentValue) (k : ℕ) (t : SegmentState) → IsLegal s → (behind : IsBehind s k t) → StandsBehind s behind.first k t }
 {}
 
-/// Behind any number of drift frames the told clock of a slave is that of its history: its start by the file, and what each frame since the first
-/// one of the run brought it.
+/// After any number of drift frames the told clock of a slave is that of its history: its start by the file, and what each frame
+/// since the first one of the run brought it.
 pub fn clocks_have_histories()
     ensures { (s : SegmentValue) (k p : ℕ) (t : SegmentState) (v : Slave) → IsLegal s → (behind : IsBehind s k t)
         → slice_get t.slaves p ≡ Some v → has_clock (kind_at s p) ≡ true
