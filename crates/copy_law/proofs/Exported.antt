@@ -5,7 +5,7 @@ pub use Rattle.copy_law.proofs.Untouching.{offset_untouched, delay_untouched}
 -- Datagrams for which no slave writes a place stay so on their way, and each slave leaves it.
 pub use Rattle.copy_law.proofs.Unwritten.{datagrams_none, left_none}
 -- A frame that does not write a place leaves of the slaves what only such a write changes.
-pub use Rattle.copy_law.proofs.Slaves.{plain_held}
+pub use Rattle.copy_law.proofs.Slaves.{IsQuiet, IsKept, plain_held, corrections_kept, frames_alike, finished_alike}
 -- Behind commissioning the slaves hold what they held.
 pub use Rattle.copy_law.proofs.Held.{settled_holds, armed_holds, ran_holds}
 -- The states behind drift frames: the way there, and what each frame keeps of them.
@@ -18,6 +18,6 @@ pub use Rattle.copy_law.proofs.References.{is_first_clock, in_bounds, keeps_time
 -- How many frames of commissioning follow the Latch that came back.
 pub use Rattle.copy_law.proofs.FewBehind.{some_latched, latched_within, few_behind}
 -- Each clock corrects as the file's speed says.
-pub use Rattle.copy_law.proofs.Rated.{commissioned_correct, settled_correct, armed_correct, ran_correct, whole_correct}
+pub use Rattle.copy_law.proofs.Rated.{still_correct, commissioned_correct, settled_correct, armed_correct, ran_correct, whole_correct}
 -- The clocks of a run by their histories, whatever exchanges have passed since the start of the file.
 pub use Rattle.copy_law.proofs.History.{history_then, history_one, file_first, file_step, running, has_there, has_behind}

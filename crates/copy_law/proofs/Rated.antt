@@ -261,8 +261,8 @@ module _ (s : SegmentValue) (legal : IsLegal s) where
     commissioned_correct = rated_by on_at_end.stage
 
     -- and behind it
-    stays : (last : RunEnd) → map ticks_to_correction last.state.slaves ≡ map ticks_to_correction run.state.slaves → AllCorrect s last.state.slaves
-    stays last alike q w there clock =
+    pub still_correct : (last : RunEnd) → map ticks_to_correction last.state.slaves ≡ map ticks_to_correction run.state.slaves → AllCorrect s last.state.slaves
+    still_correct last alike q w there clock =
         let within = low_where last.state.slaves q w there in
         let many : length last.state.slaves ≡ length run.state.slaves =
         sym (length-map last.state.slaves ticks_to_correction) ∙ ap length alike ∙ length-map run.state.slaves ticks_to_correction in
@@ -270,13 +270,13 @@ module _ (s : SegmentValue) (legal : IsLegal s) where
         alike_at ticks_to_correction run.state.slaves last.state.slaves alike q v.slave w v.is there ∙ commissioned_correct q v.slave v.is clock
 
     pub settled_correct : (last : RunEnd) → settled s ≡ Some last → AllCorrect s last.state.slaves
-    settled_correct last then = stays last (settled_alike ticks_to_correction 0x0930 2 corrections_kept speed_untouched s legal run last is then)
+    settled_correct last then = still_correct last (settled_alike ticks_to_correction 0x0930 2 corrections_kept speed_untouched s legal run last is then)
 
     pub armed_correct : (last : RunEnd) → armed s ≡ Some last → AllCorrect s last.state.slaves
-    armed_correct last then = stays last (armed_alike ticks_to_correction 0x0930 2 corrections_kept speed_untouched s legal run last is then)
+    armed_correct last then = still_correct last (armed_alike ticks_to_correction 0x0930 2 corrections_kept speed_untouched s legal run last is then)
 
     pub ran_correct : (last : RunEnd) → ran s ≡ Some last → AllCorrect s last.state.slaves
-    ran_correct last then = stays last (ran_alike ticks_to_correction 0x0930 2 corrections_kept speed_untouched s legal run last is then)
+    ran_correct last then = still_correct last (ran_alike ticks_to_correction 0x0930 2 corrections_kept speed_untouched s legal run last is then)
 
     pub whole_correct : (last : RunEnd) → run_of s ≡ Some last → AllCorrect s last.state.slaves
-    whole_correct last then = stays last (whole_alike ticks_to_correction 0x0930 2 corrections_kept speed_untouched s legal run last is then)
+    whole_correct last then = still_correct last (whole_alike ticks_to_correction 0x0930 2 corrections_kept speed_untouched s legal run last is then)

@@ -3,14 +3,16 @@ use Rattle.std.proofs.Common.{◌≡◌, ℕ, ◌+◌, ◌*◌, List, [], ◌∷
 use Rattle.std.proofs.lemmas.List.{append-nil, append_cancel_left}
 use Rattle.copy_law.specs.Drifting.{IsBehind, StandsBehind}
 use Rattle.copy_law.specs.HeldOffsets.{AreSet}
-use Rattle.copy_law.specs.Untouched.{IsUntouched}
+use Rattle.copy_law.specs.Speeds.{AllCorrect}
+use Rattle.copy_law.specs.Untouched.{IsUntouched, ticks_to_correction}
 use Rattle.copy_law.proofs.Behind.{drifts_led, wanted_there}
 use Rattle.copy_law.proofs.BehindLatch.{set_from}
 use Rattle.copy_law.proofs.Held.{alike_at, drifted_alike}
+use Rattle.copy_law.proofs.Rated.{still_correct}
 use Rattle.copy_law.proofs.Registers.{delay_plain, offset_plain}
-use Rattle.copy_law.proofs.Slaves.{IsKept, plain_held}
+use Rattle.copy_law.proofs.Slaves.{IsKept, corrections_kept, plain_held}
 use Rattle.copy_law.proofs.States.{all_behind, mindful_all, orderly_led}
-use Rattle.copy_law.proofs.Untouching.{delay_untouched, offset_untouched}
+use Rattle.copy_law.proofs.Untouching.{delay_untouched, offset_untouched, speed_untouched}
 use Rattle.dc_bounds.specs.LockNumbers.{period_fs}
 use Rattle.delay_law.specs.OfFile.{IsOfFile}
 use Rattle.delay_law.proofs.Exported.{fixed_first, fixed_step}
@@ -130,6 +132,10 @@ module _ (s : SegmentValue) (legal : IsLegal s) (k : ℕ) (t : SegmentState) (b 
       (alike_at (λ (v : Slave). holds 4 0x0928 v.registers) b.first.state.slaves t.slaves
       (behind_alike (λ (v : Slave). holds 4 0x0928 v.registers) 0x0928 4 (plain_held 0x0928 4 delay_plain) delay_untouched))
 
+  corrections : AllCorrect s t.slaves
+  corrections =
+      still_correct s legal b.first b.commissioned b.ok cut (behind_alike ticks_to_correction 0x0930 2 corrections_kept speed_untouched)
+
   pub stands_behind : StandsBehind s b.first k t
   stands_behind =
       let more : (progress (master_of s) sofar).sent + 1 ≡ length b.first.exchanges + (k + 1) = let same = sendings in omega (arith, same) in
@@ -141,4 +147,5 @@ module _ (s : SegmentValue) (legal : IsLegal s) (k : ℕ) (t : SegmentState) (b 
         last = stands.last ∙ ap (λ (n : ℕ). n * period_fs s.head.frame_ns) sendings;
         next = stands.next ∙ ap (λ (n : ℕ). n * period_fs s.head.frame_ns) more;
         set = offsets;
+        speeds = corrections;
       }

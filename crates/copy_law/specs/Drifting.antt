@@ -2,6 +2,7 @@
 use Rattle.std.specs.Prelude.{◌≡◌, ℕ, ◌+◌, List, ◌++◌, length, Some, Ok}
 use Rattle.copy_law.specs.HeldOffsets.{AreSet}
 use Rattle.copy_law.specs.Receipts.{sent_at}
+use Rattle.copy_law.specs.Speeds.{AllCorrect}
 use Rattle.delay_law.specs.OfFile.{IsOfFile}
 use Rattle.ecat_link.specs.Exchanges.{Exchange, Runs}
 use Rattle.frame_pass.specs.SegmentState.{SegmentState, leaves_at, segment_step}
@@ -26,7 +27,7 @@ pub record IsBehind (s : SegmentValue) (k : ℕ) (t : SegmentState) : Type 0 whe
 
 -- What holds of that state. The slaves are those of the file, sound, and each has its station address. So many frames were sent, k of
 -- them drift frames, the last one at its frame period, and the next one leaves a period later. Each clock holds the offset and the delay
--- that commissioning left.
+-- that commissioning left, and corrects by the file's speed.
 pub record StandsBehind (s : SegmentValue) (first : RunEnd) (k : ℕ) (t : SegmentState) : Type 0 where
   pub file : IsOfFile s t
   pub named : AreInOrder (kind_at s) (status_at s) (length s.rows) (length s.rows) t.slaves
@@ -35,3 +36,4 @@ pub record StandsBehind (s : SegmentValue) (first : RunEnd) (k : ℕ) (t : Segme
   pub last : t.last ≡ sent_at s first k
   pub next : leaves_at t s.head.frame_ns ≡ sent_at s first (k + 1)
   pub set : AreSet s (words_after s first) t.slaves
+  pub speeds : AllCorrect s t.slaves

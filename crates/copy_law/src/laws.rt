@@ -192,7 +192,8 @@ pub fn drift_frames_follow()
 
 /// What holds of the segment of a legal file after k drift frames. Its slaves are those of the file, sound, and each has its station
 /// address. C + k frames were sent, where commissioning sent C, and k of them are drift frames. The last one left at C + k frame
-/// periods, and the next one leaves a period later. Each clock holds the offset and the delay that commissioning left.
+/// periods, and the next one leaves a period later. Each clock holds the offset and the delay that commissioning left, and corrects
+/// by the file's speed.
 pub fn states_stand()
     ensures { (s : SegmentValue) (k : ℕ) (t : SegmentState) → IsLegal s → (behind : IsBehind s k t) → StandsBehind s behind.first k t }
 {}

@@ -29,7 +29,7 @@
 //! **Where drift frames lead.** There is one state of the segment behind each number of drift frames that a run sends: the
 //! next frame finds it, and makes the next state of it, and the last is that in which the run ends
 //! ([`laws::drift_frames_follow`]). In each of them the slaves are those of the file, each frame so far left at its period,
-//! and each clock holds the offset and the delay that commissioning left ([`laws::states_stand`]).
+//! and each clock holds the offset and the delay that commissioning left, and corrects by the file's speed ([`laws::states_stand`]).
 //! Its told clock is that of its history since the start of the file ([`laws::clocks_have_histories`]).
 //!
 //! That the copies of the clocks then stay near is not proved yet; these laws are what a proof of it begins with. A law
