@@ -184,6 +184,22 @@ module _ (s : SegmentValue) (k : ℕ) (t u : SegmentState) (b : IsBehind s k t) 
       (subst (λ (r : RunEnd). Runs segment_step (Some r.state) b.before (Some t)) same_first b.led))
       c.led
 
+-- a drift frame is one exchange more
+module _ (s : SegmentValue) (legal : IsLegal s) (k : ℕ) (t : SegmentState) (e : Exchange) (f : IsDriftFrame s (k + 1) t e) where
+  found_is : (found_behind s legal k t e f).before ≡ f.before
+  unfolding found_behind
+  found_is = refl
+
+  left_is : (left_behind s legal k t e f).before ≡ f.before ++ e ∷ []
+  unfolding left_behind
+  left_is = refl
+
+  pub one_before : (b : IsBehind s k t) (c : IsBehind s (k + 1) (segment_step t e.wait_ns e.sent).0) → c.before ≡ b.before ++ e ∷ []
+  one_before b c =
+      let u = (segment_step t e.wait_ns e.sent).0 in
+      same_before s (k + 1) u u c (left_behind s legal k t e f) ∙ left_is
+      ∙ ap (λ (es : List Exchange). es ++ e ∷ []) (sym found_is ∙ same_before s k t t (found_behind s legal k t e f) b)
+
 -- the last of them, and the state that it found
 pub last_frame : (s : SegmentValue) (k : ℕ) (u : SegmentState) → IsBehind s (k + 1) u
     → (t : SegmentState) × (e : Exchange) × IsBehind s k t × IsDriftFrame s (k + 1) t e × (u ≡ (segment_step t e.wait_ns e.sent).0)

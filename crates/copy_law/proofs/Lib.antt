@@ -19,6 +19,10 @@ pub mod Runs
 pub mod BehindLatch
 mod Standing
 mod History
+mod Latched
+mod Whole
+mod Histories
+mod Copies
 pub mod Readings
 pub mod Times
 pub mod References

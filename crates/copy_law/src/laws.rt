@@ -33,7 +33,8 @@ ghost use Rattle.run_of_file.specs.MasterOfFile.{master_of};
 ghost use Rattle.delay_law.specs.Resting.{row_there, shown_at};
 ghost use Rattle.copy_law.specs.HeldOffsets.{AreSet, HoldsSet};
 ghost use Rattle.copy_law.specs.Drifting.{IsBehind, StandsBehind};
-ghost use Rattle.copy_law.specs.History.{clock_of, history_from};
+ghost use Rattle.copy_law.specs.History.{clock_of, copy_of_run, history_from};
+ghost use Rattle.copy_law.specs.WholeTimes.{reference_time, whole_copy};
 ghost use Rattle.frame_pass.specs.ClockHistory.{HasHistory};
 ghost use Rattle.copy_law.specs.SinceLatch.{IsSinceLatch, counted_ns, latch_arrival};
 
@@ -205,4 +206,16 @@ pub fn clocks_have_histories()
         → slice_get t.slaves p ≡ Some v → has_clock (kind_at s p) ≡ true
         → HasHistory (width (kind_at s p)) (clock_of (row_there s p))
         (history_from (started_segment s) (behind.first.exchanges ++ behind.before) p) v }
+{}
+
+/// From the arrival of the Latch that came back on, the local copy of a clock in a run is the word of a whole number: the epoch, what the clock has
+/// counted since that arrival by its history, and its measured delay. Of the reference this number is the epoch and 10 ns for each of its ticks.
+pub fn copies_are_whole()
+    ensures copy { (s : SegmentValue) (first run : RunEnd) (p t : ℕ) → IsCommissioned s first → ran s ≡ Some run → p < length s.rows
+        → has_clock (kind_at s p) ≡ true → latch_arrival s (words_after s first) p ≤ t
+        → copy_of_run s run p t
+        ≡ whole_copy s (words_after s first) p (history_from (started_segment s) run.exchanges p) t % 2 ^ width (kind_at s p) }
+    ensures reference { (s : SegmentValue) (first run : RunEnd) (r t : ℕ) → IsCommissioned s first → ran s ≡ Some run → IsReference s r
+        → whole_copy s (words_after s first) r (history_from (started_segment s) run.exchanges r) t
+        ≡ reference_time s (words_after s first) r t }
 {}

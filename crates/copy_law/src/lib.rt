@@ -29,8 +29,12 @@
 //! **Where drift frames lead.** There is one state of the segment behind each number of drift frames that a run sends: the
 //! next frame finds it, and makes the next state of it, and the last is that in which the run ends
 //! ([`laws::drift_frames_follow`]). In each of them the slaves are those of the file, each frame so far left at its period,
-//! and each clock holds the offset and the delay that commissioning left, and corrects by the file's speed ([`laws::states_stand`]).
-//! Its told clock is that of its history since the start of the file ([`laws::clocks_have_histories`]).
+//! and each clock holds the offset and the delay that commissioning left, and corrects by the file's speed
+//! ([`laws::states_stand`]).
+//! Its told clock is that of its history since the start of the file ([`laws::clocks_have_histories`]). So its local
+//! copy is at any time, as a word, the epoch, what the clock has counted by that history since the Latch that came back
+//! arrived at it, and its delay; of the reference that is the epoch and 10 ns for each tick
+//! ([`laws::copies_are_whole`]).
 //!
 //! That the copies of the clocks then stay near is not proved yet; these laws are what a proof of it begins with. A law
 //! on the edges of a run goes into a crate above this one, which is not there yet.
