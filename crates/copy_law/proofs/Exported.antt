@@ -16,7 +16,7 @@ pub use Rattle.copy_law.proofs.Standing.{cut, from_start, scripted, drifted, beh
 pub use Rattle.copy_law.proofs.First.{reference_low, reference_clock, behind_reference}
 pub use Rattle.copy_law.proofs.References.{is_first_clock, in_bounds, keeps_time, counts, is_told, has_no_delay}
 -- How many frames of commissioning follow the Latch that came back.
-pub use Rattle.copy_law.proofs.FewBehind.{some_latched, latched_within, few_behind}
+pub use Rattle.copy_law.proofs.FewBehind.{some_latched, few_behind}
 -- Each clock corrects as the file's speed says.
 pub use Rattle.copy_law.proofs.Rated.{still_correct, commissioned_correct, settled_correct, armed_correct, ran_correct, whole_correct}
 -- The clocks of a run by their histories, whatever exchanges have passed since the start of the file.

@@ -283,9 +283,6 @@ module _ (s : SegmentValue) (legal : IsLegal s) where
     pub some_latched : 0 < (words_after s run).latched
     some_latched = counting.some
 
-    pub latched_within : (words_after s run).latched ≤ length run.exchanges
-    latched_within = let within = counting.within in let sent = progress_sent cfg run.exchanges in omega (arith, within, sent)
-
     pub few_behind : length run.exchanges ≤ (words_after s run).latched + 3 * measuring_rows s.rows + 3 * clock_rows s.rows
     few_behind =
         let late = late_at_end s legal run is ok in

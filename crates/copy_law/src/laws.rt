@@ -208,8 +208,9 @@ pub fn clocks_have_histories()
         (history_from (started_segment s) (behind.first.exchanges ++ behind.before) p) v }
 {}
 
-/// From the arrival of the Latch that came back on, the local copy of a clock in a run is the word of a whole number: the epoch, what the clock has
-/// counted since that arrival by its history, and its measured delay. Of the reference this number is the epoch and 10 ns for each of its ticks.
+/// From the arrival of the Latch that came back on, the local copy of a clock in a run is the word of a whole number: the epoch, what
+/// the clock has counted since that arrival by its history, and its measured delay. Of the reference this number is the epoch and 10
+/// ns for each of its ticks.
 pub fn copies_are_whole()
     ensures copy { (s : SegmentValue) (first run : RunEnd) (p t : ℕ) → IsCommissioned s first → ran s ≡ Some run → p < length s.rows
         → has_clock (kind_at s p) ≡ true → latch_arrival s (words_after s first) p ≤ t
