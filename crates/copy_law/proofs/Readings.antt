@@ -36,7 +36,7 @@ use Rattle.delay_law.proofs.Exported.{late, told, first_clock, wide_told}
 use Rattle.copy_law.specs.SinceLatch.{latch_arrival}
 
 -- a clock measures
-clock_measures : (k : ClockKind) → has_clock k ≡ true → measures k ≡ true
+pub clock_measures : (k : ClockKind) → has_clock k ≡ true → measures k ≡ true
 clock_measures kind.None e = absurd (let z = e in cc)
 clock_measures kind.R32 e = refl
 clock_measures kind.C32 e = refl
