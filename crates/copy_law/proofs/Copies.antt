@@ -16,9 +16,9 @@ use Rattle.copy_law.proofs.Bringing.{frame_brings}
 use Rattle.copy_law.proofs.Drifting.{found_behind}
 use Rattle.copy_law.proofs.First.{reference_clock, reference_low}
 use Rattle.copy_law.proofs.Histories.{first_resets, history_induction}
-use Rattle.copy_law.proofs.History.{clock_measures, has_behind, running}
+use Rattle.copy_law.proofs.History.{has_behind, running}
 use Rattle.copy_law.proofs.Latched.{latched_within}
-use Rattle.copy_law.proofs.Readings.{offset_by_reading, reference_delay}
+use Rattle.copy_law.proofs.Readings.{clock_measures, offset_by_reading, reference_delay}
 use Rattle.copy_law.proofs.Standing.{stands_behind}
 use Rattle.copy_law.proofs.Whole.{order_later, whole_not_yet, whole_rests}
 use Rattle.dc_bounds.specs.LockNumbers.{period_fs}

@@ -239,7 +239,7 @@ last_frame s k u b =
       some_same r.2.1,
     )
 
-none_before : (es : List Exchange) → 0 ≡ length es → es ≡ []
+pub none_before : (es : List Exchange) → 0 ≡ length es → es ≡ []
 none_before [] none = refl
 none_before (x ∷ es) none = absurd (omega (arith, none))
 

@@ -11,7 +11,7 @@ pub use Rattle.copy_law.proofs.Held.{settled_holds, armed_holds, ran_holds}
 -- The states behind drift frames: the way there, and what each frame keeps of them.
 pub use Rattle.copy_law.proofs.Drifting.{begins_behind, frame_there, last_behind, found_behind, left_behind, same_first, same_before, one_behind, one_before, last_frame, behind_induction}
 -- What holds of these states: the run as if it ended there, what drift frames keep of slaves, and the rest of the law.
-pub use Rattle.copy_law.proofs.Standing.{cut, from_start, scripted, drifted, behind_alike, stands_behind}
+pub use Rattle.copy_law.proofs.Standing.{file_first, file_step, cut, from_start, scripted, drifted, behind_alike, corrections_behind, stands_behind}
 -- The reference of a file is the clock that commissioning finds.
 pub use Rattle.copy_law.proofs.First.{reference_low, reference_clock, behind_reference}
 pub use Rattle.copy_law.proofs.References.{is_first_clock, in_bounds, keeps_time, counts, is_told, has_no_delay}
@@ -20,7 +20,7 @@ pub use Rattle.copy_law.proofs.FewBehind.{some_latched, few_behind}
 -- Each clock corrects as the file's speed says.
 pub use Rattle.copy_law.proofs.Rated.{still_correct, commissioned_correct, settled_correct, armed_correct, ran_correct, whole_correct}
 -- The clocks of a run by their histories, whatever exchanges have passed since the start of the file.
-pub use Rattle.copy_law.proofs.History.{history_then, history_one, file_first, file_step, running, has_there, has_behind}
+pub use Rattle.copy_law.proofs.History.{history_then, history_one, running, has_there, has_behind}
 -- The Latch that came back is one of the frames that were sent.
 pub use Rattle.copy_law.proofs.Latched.{latched_within}
 -- The local time without wrap, where events are resets alone, or are none yet.
@@ -30,3 +30,5 @@ pub use Rattle.copy_law.proofs.Histories.{first_resets, history_induction}
 -- The local copy of a clock as a whole number, behind drift frames and in the whole run, and that of the reference.
 pub use Rattle.copy_law.proofs.Copies.{the_reference, told_reference, IsSplit, split_behind, ordered, time_at_latch, time_rises, copy_behind}
 pub use Rattle.copy_law.proofs.Copies.{reference_history, reference_counts, reference_behind, copy_then, reference_then}
+-- So is the system time that a slave has behind drift frames.
+pub use Rattle.copy_law.proofs.SystemTimes.{time_behind}

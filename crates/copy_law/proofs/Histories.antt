@@ -1,13 +1,14 @@
 -- What commissioning brings the clocks of a run, and what each drift frame after it adds to their histories.
-use Rattle.std.proofs.Common.{◌≡◌, ℕ, ◌+◌, Bool, true, false, List, [], ◌∷◌, ◌++◌, length, Option, Some, None, refl, sym, ap, subst, ◌∙◌, append_assoc, arith}
+use Rattle.std.proofs.Common.{◌≡◌, ℕ, ◌+◌, Bool, true, false, List, [], ◌∷◌, ◌++◌, Option, Some, None, sym, ap, subst, ◌∙◌, append_assoc}
 use Rattle.std.specs.Prelude.{if◌then◌else◌, nat_lt, slice_get}
 use Rattle.std.specs.List.{AllByRecursion}
 use Rattle.std.proofs.lemmas.List.{append-nil}
 use Rattle.copy_law.specs.Drifting.{IsBehind}
 use Rattle.copy_law.specs.History.{brought_to, history_from}
 use Rattle.copy_law.specs.Receipts.{IsDriftFrame}
-use Rattle.copy_law.proofs.Drifting.{behind_induction, one_before}
-use Rattle.copy_law.proofs.History.{file_first, file_step, history_one, history_then}
+use Rattle.copy_law.proofs.Drifting.{behind_induction, none_before, one_before}
+use Rattle.copy_law.proofs.History.{history_one, history_then}
+use Rattle.copy_law.proofs.Standing.{file_first, file_step}
 use Rattle.delay_law.specs.Far.{AreFar}
 use Rattle.delay_law.specs.OfFile.{IsOfFile}
 use Rattle.delay_law.proofs.Exported.{IsCommissioning, far_behind, far_left, far_time}
@@ -70,9 +71,6 @@ module _ (s : SegmentValue) (legal : IsLegal s) where
     far_brings t e None file far = tt
     far_brings t e (Some v) file far = by (nat_lt p (reach_of t e.sent))
       where
-        sent : ℕ
-        sent = leaves_at t e.wait_ns
-
         by : (b : Bool) → AreResets (if b then events_passed (leaves_at t e.wait_ns) v (datagrams_behind p (leaves_at t e.wait_ns) t.slaves e.sent.datagrams) else [])
         by false = tt
         by true =
@@ -85,7 +83,7 @@ module _ (s : SegmentValue) (legal : IsLegal s) where
     far_history [] t file far = tt
     far_history (e ∷ es) t file far =
         let next = (segment_step t e.wait_ns e.sent).0 in
-        joined (brought_to t e p (slice_get t.slaves p)) (history_from next es p) (far_brings t e (slice_get t.slaves p) file far.0) (far_history es next (file_step s legal t e file) far.1)
+        joined (brought_to t e p (slice_get t.slaves p)) (history_from next es p) (far_brings t e (slice_get t.slaves p) file far.0) (far_history es next (file_step s legal t e.wait_ns e.sent file) far.1)
 
     pub first_resets : (first : RunEnd) → commissioned s ≡ Some first → AreResets (history_from (started_segment s) first.exchanges p)
     unfolding commissioned
@@ -105,10 +103,6 @@ module _ (s : SegmentValue) (legal : IsLegal s) where
       → P (k + 1) (segment_step t e.wait_ns e.sent).0 (events ++ brought_to t e p (slice_get t.slaves p))) where
     abbrev Holds : ℕ → SegmentState → Type 0
     Holds k t = (b : IsBehind s k t) → P k t (history_from (started_segment s) (b.first.exchanges ++ b.before) p)
-
-    none_before : (es : List Exchange) → 0 ≡ length es → es ≡ []
-    none_before [] none = refl
-    none_before (x ∷ es) none = absurd (omega (arith, none))
 
     holds_first : Holds 0 first.state
     holds_first b =

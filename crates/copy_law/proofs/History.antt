@@ -7,12 +7,12 @@ use Rattle.std.proofs.lemmas.List.{append-nil}
 use Rattle.std.proofs.lemmas.List.Elements.{All-get_or}
 use Rattle.copy_law.specs.Drifting.{IsBehind}
 use Rattle.copy_law.specs.History.{brought_to, clock_of, history_from}
+use Rattle.copy_law.proofs.Readings.{clock_measures}
 use Rattle.copy_law.proofs.Standing.{from_start, scripted}
-use Rattle.delay_law.specs.OfFile.{IsOfFile}
 use Rattle.delay_law.specs.Resting.{row_there}
-use Rattle.delay_law.proofs.Exported.{fixed_first, fixed_step, keeps_there}
+use Rattle.delay_law.proofs.Exported.{keeps_there}
 use Rattle.ecat_link.specs.Exchanges.{Exchange, Runs}
-use Rattle.esc_regs.specs.Kinds.{greatest_start, has_clock, measures}
+use Rattle.esc_regs.specs.Kinds.{greatest_start, has_clock}
 use Rattle.esc_regs.specs.declared.clock_kind.ClockKind.{ClockKind}
 use Rattle.esc_regs.specs.declared.clock_kind.ClockKind.TheVariants as kind
 use Rattle.frame_pass.specs.ClockHistory.{HasHistory, events_passed}
@@ -20,7 +20,7 @@ use Rattle.frame_pass.specs.FramePass.{datagrams_behind, end_of, slave_passed}
 use Rattle.frame_pass.specs.Reach.{reach_of}
 use Rattle.frame_pass.specs.SegmentState.{SegmentState, leaves_at, segment_step}
 use Rattle.frame_pass.specs.SlaveState.{Slave, Timing, width}
-use Rattle.frame_pass.proofs.Exported.{of_passed, of_start, step_reached, step_sent, step_stays, timely_step}
+use Rattle.frame_pass.proofs.Exported.{of_passed, of_start, step_reached, step_sent, step_stays}
 use Rattle.honest_slaves.specs.FileSlaves.{kind_at}
 use Rattle.honest_slaves.proofs.Exported.{had_before, low_where, same_many}
 use Rattle.local_clock.specs.Reading.{Clock, Happening}
@@ -30,18 +30,12 @@ use Rattle.segment_file.specs.Legal.{IsClock, IsLegal}
 use Rattle.segment_file.specs.Segment.{RowValue, SegmentValue, no_row, oscillator, row_at}
 use Rattle.segment_file.proofs.Exported.{row_within}
 use Rattle.segment_start.specs.Start.{registers_of, slave_of, started_segment, timing_by}
-use Rattle.segment_start.proofs.Exported.{as_many, stands_at, starts_timely}
+use Rattle.segment_start.proofs.Exported.{stands_at}
 
 some_same : {X : Type 0} {x y : X} → Some x ≡ Some y → x ≡ y
 some_same e = cc
 
--- a clock measures, and its start is a word of its width
-pub clock_measures : (k : ClockKind) → has_clock k ≡ true → measures k ≡ true
-clock_measures kind.None e = absurd (let z = e in cc)
-clock_measures kind.R32 e = refl
-clock_measures kind.C32 e = refl
-clock_measures kind.C64 e = refl
-
+-- a start that the kind allows is a word of the clock's width
 start_fits : (k : ClockKind) (x : ℕ) → x ≤ greatest_start k → x < 2 ^ width k
 unfolding width
 start_fits kind.None x h = omega (arith, h)
@@ -73,17 +67,6 @@ history_then (e ∷ es) fs t u p runs =
 pub history_one : (t : SegmentState) (e : Exchange) (p : ℕ) → history_from t (e ∷ []) p ≡ brought_to t e p (slice_get t.slaves p)
 unfolding history_from
 history_one t e p = append-nil (brought_to t e p (slice_get t.slaves p))
-
--- the states of a file on the way
-pub file_first : (s : SegmentValue) → IsLegal s → IsOfFile s (started_segment s)
-file_first s legal = record { many = as_many s legal; sound = starts_timely s legal; fixed = fixed_first s legal }
-
-pub file_step : (s : SegmentValue) → IsLegal s → (t : SegmentState) (e : Exchange) → IsOfFile s t → IsOfFile s (segment_step t e.wait_ns e.sent).0
-file_step s legal t e h = record {
-  many = same_many t e.wait_ns e.sent ∙ h.many;
-  sound = timely_step t e.wait_ns e.sent h.sound;
-  fixed = fixed_step s legal t h.many h.sound h.fixed e.wait_ns e.sent;
-}
 
 module _ (s : SegmentValue) (legal : IsLegal s) (p : ℕ) (low : p < length s.rows) (is : has_clock (kind_at s p) ≡ true) where
   abbrev pub clock : Clock

@@ -23,6 +23,7 @@ mod Latched
 mod Whole
 mod Histories
 mod Copies
+mod SystemTimes
 pub mod Readings
 pub mod Times
 pub mod References

@@ -4,7 +4,7 @@ use Rattle.std.proofs.lemmas.List.{append-nil, append_cancel_left}
 use Rattle.copy_law.specs.Drifting.{IsBehind, StandsBehind}
 use Rattle.copy_law.specs.HeldOffsets.{AreSet}
 use Rattle.copy_law.specs.Speeds.{AllCorrect}
-use Rattle.copy_law.specs.Untouched.{IsUntouched, ticks_to_correction}
+use Rattle.copy_law.specs.Untouched.{CorrectAlike, IsUntouched, ticks_to_correction}
 use Rattle.copy_law.proofs.Behind.{drifts_led, wanted_there}
 use Rattle.copy_law.proofs.BehindLatch.{set_from}
 use Rattle.copy_law.proofs.Held.{alike_at, drifted_alike}
@@ -16,6 +16,7 @@ use Rattle.copy_law.proofs.Untouching.{delay_untouched, offset_untouched, speed_
 use Rattle.dc_bounds.specs.LockNumbers.{period_fs}
 use Rattle.delay_law.specs.OfFile.{IsOfFile}
 use Rattle.delay_law.proofs.Exported.{fixed_first, fixed_step}
+use Rattle.ecat_frame.specs.FrameGrammar.{FrameValue}
 use Rattle.ecat_link.specs.Exchanges.{Exchange}
 use Rattle.ecat_link.proofs.Exported.{runs_then}
 use Rattle.frame_pass.specs.SegmentState.{SegmentState, segment_step}
@@ -49,6 +50,17 @@ scripted_before cfg frames all made es (e ∷ rest) is = (wanted_there cfg frame
 numbered_before : (s : SegmentValue) (number : ℕ) (es rest : List Exchange) → AreNumbered s phase.Drift number (es ++ rest) → AreNumbered s phase.Drift number es
 numbered_before s number [] rest h = tt
 numbered_before s number (e ∷ es) rest h = (h.0, h.1, numbered_before s (number + 1) es rest h.2)
+
+-- the states of a file on the way
+pub file_first : (s : SegmentValue) → IsLegal s → IsOfFile s (started_segment s)
+file_first s legal = record { many = as_many s legal; sound = starts_timely s legal; fixed = fixed_first s legal }
+
+pub file_step : (s : SegmentValue) → IsLegal s → (t : SegmentState) (wait_ns : ℕ) (f : FrameValue) → IsOfFile s t → IsOfFile s (segment_step t wait_ns f).0
+file_step s legal t wait_ns f h = record {
+  many = same_many t wait_ns f ∙ h.many;
+  sound = timely_step t wait_ns f h.sound;
+  fixed = fixed_step s legal t h.many h.sound h.fixed wait_ns f;
+}
 
 module _ (s : SegmentValue) (legal : IsLegal s) (k : ℕ) (t : SegmentState) (b : IsBehind s k t) where
   abbrev sofar : List Exchange
@@ -96,15 +108,11 @@ module _ (s : SegmentValue) (legal : IsLegal s) (k : ℕ) (t : SegmentState) (b 
   pub behind_alike : {X : Type 0} (see : Slave → X) (at n : ℕ) → IsKept see at n → IsUntouched at n → map see t.slaves ≡ map see b.first.state.slaves
   behind_alike see at n kept far = drifted_alike see at n kept far s legal b.first cut b.commissioned drifted
 
+  pub corrections_behind : CorrectAlike b.first.state.slaves t.slaves
+  corrections_behind = alike_at ticks_to_correction b.first.state.slaves t.slaves (behind_alike ticks_to_correction 0x0930 2 corrections_kept speed_untouched)
+
   of_file : IsOfFile s t
-  of_file =
-      kept_by_runs (IsOfFile s)
-      (λ u wait_ns f h. record {
-        many = same_many u wait_ns f ∙ h.many;
-        sound = timely_step u wait_ns f h.sound;
-        fixed = fixed_step s legal u h.many h.sound h.fixed wait_ns f;
-      })
-      sofar (started_segment s) t from_start (record { many = as_many s legal; sound = starts_timely s legal; fixed = fixed_first s legal })
+  of_file = kept_by_runs (IsOfFile s) (file_step s legal) sofar (started_segment s) t from_start (file_first s legal)
 
   in_order : AreInOrder (kind_at s) (status_at s) (length s.rows) (length s.rows) t.slaves
   in_order =

@@ -35,7 +35,7 @@ said : (P : Timing → Type 0) (o : Option Timing) (m : Timing) → o ≡ Some m
 said P o m e h = subst (λ (x : Option Timing). IfSome x P) e h
 
 -- 32 bits are no more than those of a clock
-word_few : (k : ClockKind) (d : ℕ) → d < 2 ^ 32 → d < 2 ^ width k
+pub word_few : (k : ClockKind) (d : ℕ) → d < 2 ^ 32 → d < 2 ^ width k
 unfolding width
 word_few kind.None d few = few
 word_few kind.R32 d few = few
@@ -55,7 +55,7 @@ copy_since row w epoch d at t is late running =
     ∙ offset_sum w (epoch + d) (time_at row at % 2 ^ w) (time_at row t) (time_at row at) b.0 refl ∙ ap (λ x. (epoch + d + x) % 2 ^ w) b.1
 
 -- less its delay
-time_since : (w epoch d counted : ℕ) → d < 2 ^ w → ((epoch + d + counted) % 2 ^ w + (2 ^ w - d)) % 2 ^ w ≡ (epoch + counted) % 2 ^ w
+pub time_since : (w epoch d counted : ℕ) → d < 2 ^ w → ((epoch + d + counted) % 2 ^ w + (2 ^ w - d)) % 2 ^ w ≡ (epoch + counted) % 2 ^ w
 time_since w epoch d counted few =
     let less : epoch + d + counted - d ≡ epoch + counted = omega arith in
     ap (λ x. ((epoch + d + counted) % 2 ^ w + (2 ^ w - x)) % 2 ^ w) (sym (mod-eq_of_lt few)) ∙ difference_of_cut w (epoch + d + counted) d (omega arith) ∙ ap (λ x. x % 2 ^ w) less
