@@ -6,6 +6,7 @@ use Rattle.std.specs.Option.{option_map_or}
 use Rattle.std.proofs.Math.Nat.{add-mul, mul-le-mul_right}
 use Rattle.std.proofs.lemmas.Bool.{eq-eqb}
 use Rattle.std.proofs.lemmas.List.{append-nil}
+use Rattle.cable_tree.specs.PathSums.{arrive}
 use Rattle.cable_tree.specs.Positions.{position_of}
 use Rattle.copy_law.specs.Drifting.{IsBehind}
 use Rattle.copy_law.specs.History.{brought_to, clock_of, copy_of_run, history_from, offset_of}
@@ -105,31 +106,34 @@ module _ (s : SegmentValue) (legal : IsLegal s) (first : RunEnd) (was : commissi
       file : IsOfFile s t
       file = (stands_behind s legal k t (found_behind s legal k t e f)).file
 
-      receipt_late : (v : Slave) → slice_get t.slaves p ≡ Some v → latch + 1 ≤ sent_at s f.first (k + 1) + v.visits.arrive
-      receipt_late v there =
-          let arrives = arrives_there s legal p v (file.fixed p v there) in
-          let same : f.first ≡ first = some_same (sym f.commissioned ∙ was) in
-          let many = ap (λ (r : RunEnd). length r.exchanges) same in
-          let early = latched_within (master_of s) first.exchanges in
-          let short = legal.head.frame_ns.0 in
-          let sent = later_sent words.latched (length f.first.exchanges + (k + 1)) (period_fs s.head.frame_ns) (omega (arith, short)) (omega (arith, early, many)) in
-          omega (arith, sent, arrives)
-
-      brings_late : AllByRecursion (λ (h : Happening). latch + 1 ≤ h.instant) (brought_to t e p (slice_get t.slaves p))
-      brings_late =
+      -- what it brings is brought when it arrives
+      pub brings_then : (P : ℕ → Type 0) → P (sent_at s f.first (k + 1) + arrive (tree_rows s.rows) (row_at s p)) → AllByRecursion (λ (h : Happening). P h.instant) (brought_to t e p (slice_get t.slaves p))
+      brings_then P here =
           let many = file.many in
           let r = position_of (tree_rows s.rows) (legal_reference s legal).0 in
           let reference = the_reference s legal in
           let below = reference_low s legal r reference in
           let v = had_before t.slaves p (omega (arith, many, low)) in
           let w = had_before t.slaves r (omega (arith, many, below)) in
-          subst (AllByRecursion (λ (h : Happening). latch + 1 ≤ h.instant))
+          subst (AllByRecursion (λ (h : Happening). P h.instant))
           (sym (ap (brought_to t e p) v.is ∙ frame_brings s legal (k + 1) t e f r reference w.slave w.is p v.slave v.is)) (by v.slave v.is w.slave (receives s r (k + 1) p))
         where
           by : (v : Slave) → slice_get t.slaves p ≡ Some v → (w : Slave) (b : Bool)
-              → AllByRecursion (λ (h : Happening). latch + 1 ≤ h.instant) (if b then receipt (sent_at s f.first (k + 1)) v w ∷ [] else [])
-          by v there w true = (receipt_late v there, tt)
+              → AllByRecursion (λ (h : Happening). P h.instant) (if b then receipt (sent_at s f.first (k + 1)) v w ∷ [] else [])
+          by v there w true = (subst (λ (n : ℕ). P (sent_at s f.first (k + 1) + n)) (sym (arrives_there s legal p v (file.fixed p v there))) here, tt)
           by v there w false = tt
+
+      frame_late : latch + 1 ≤ sent_at s f.first (k + 1) + arrive (tree_rows s.rows) (row_at s p)
+      frame_late =
+          let same : f.first ≡ first = some_same (sym f.commissioned ∙ was) in
+          let many = ap (λ (r : RunEnd). length r.exchanges) same in
+          let early = latched_within (master_of s) first.exchanges in
+          let short = legal.head.frame_ns.0 in
+          let sent = later_sent words.latched (length f.first.exchanges + (k + 1)) (period_fs s.head.frame_ns) (omega (arith, short)) (omega (arith, early, many)) in
+          omega (arith, sent)
+
+      pub receipt_late : (v : Slave) → slice_get t.slaves p ≡ Some v → latch + 1 ≤ sent_at s f.first (k + 1) + v.visits.arrive
+      receipt_late v there = let arrives = arrives_there s legal p v (file.fixed p v there) in let late = frame_late in omega (arith, late, arrives)
 
     -- the history behind drift frames: that of commissioning, and what comes after that Latch
     pub record IsSplit (events : List Happening) : Type 0 where
@@ -144,7 +148,7 @@ module _ (s : SegmentValue) (legal : IsLegal s) (first : RunEnd) (was : commissi
         record {
           later = h.later ++ more;
           are = ap (λ (hs : List Happening). hs ++ more) h.are ∙ append_assoc of_first h.later more;
-          late = all_joined (λ (x : Happening). latch + 1 ≤ x.instant) h.later more h.late (brings_late k t e f);
+          late = all_joined (λ (x : Happening). latch + 1 ≤ x.instant) h.later more h.late (brings_then k t e f (λ (n : ℕ). latch + 1 ≤ n) (frame_late k t e f));
         }
 
     pub split_behind : (k : ℕ) (t : SegmentState) (b : IsBehind s k t) → IsSplit (history_from (started_segment s) (b.first.exchanges ++ b.before) p)
@@ -247,10 +251,10 @@ module _ (s : SegmentValue) (legal : IsLegal s) (first : RunEnd) (was : commissi
 
 -- the whole run
 module _ (s : SegmentValue) (first run : RunEnd) (it : IsCommissioned s first) (is : ran s ≡ Some run) where
-  abbrev drifted : Drifted s first run
+  abbrev pub drifted : Drifted s first run
   drifted = ran_drifted s it.legal first run it.is is
 
-  abbrev whole : IsBehind s (length drifted.more) run.state
+  abbrev pub whole : IsBehind s (length drifted.more) run.state
   whole = record {
     first = first;
     run = run;

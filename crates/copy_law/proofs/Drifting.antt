@@ -123,7 +123,7 @@ module _ (s : SegmentValue) (first : RunEnd) (it : IsCommissioned s first) where
 
 -- behind those before a drift frame, and behind it
 module _ (s : SegmentValue) (legal : IsLegal s) (k : ℕ) (t : SegmentState) (e : Exchange) (f : IsDriftFrame s (k + 1) t e) where
-  pub found_behind : IsBehind s k t
+  abbrev pub found_behind : IsBehind s k t
   found_behind =
       let n = f.number in
       record {
@@ -187,7 +187,6 @@ module _ (s : SegmentValue) (k : ℕ) (t u : SegmentState) (b : IsBehind s k t) 
 -- a drift frame is one exchange more
 module _ (s : SegmentValue) (legal : IsLegal s) (k : ℕ) (t : SegmentState) (e : Exchange) (f : IsDriftFrame s (k + 1) t e) where
   found_is : (found_behind s legal k t e f).before ≡ f.before
-  unfolding found_behind
   found_is = refl
 
   left_is : (left_behind s legal k t e f).before ≡ f.before ++ e ∷ []

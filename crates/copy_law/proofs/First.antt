@@ -16,8 +16,8 @@ use Rattle.segment_file.proofs.Exported.{order_many, row_within}
 use Rattle.esc_regs.specs.Kinds.{has_clock}
 
 module _ (s : SegmentValue) (legal : IsLegal s) (r : ℕ) (reference : IsReference s r) where
-  row_there : row_at s r ≡ reference.row
-  row_there =
+  pub first_row : row_at s r ≡ reference.row
+  first_row =
       ap (λ (p : ℕ). slice_index (order (tree_rows s.rows)) p) reference.position
       ∙ order_at (tree_rows s.rows) legal.tree.tree legal.tree.slaves reference.row
       (reference_within (tree_rows s.rows) legal.tree.tree legal.tree.slaves (clock_at s.rows) reference.row reference.found)
@@ -32,7 +32,7 @@ module _ (s : SegmentValue) (legal : IsLegal s) (r : ℕ) (reference : IsReferen
 
   pub reference_clock : has_clock (kind_at s r) ≡ true
   reference_clock =
-      row_has has_clock s legal r reference_low ∙ ap (clock_at s.rows) row_there
+      row_has has_clock s legal r reference_low ∙ ap (clock_at s.rows) first_row
       ∙ reference_timed (tree_rows s.rows) legal.tree.tree legal.tree.slaves (clock_at s.rows) reference.row reference.found
 
   pub behind_reference : (p : ℕ) → p < length s.rows → has_clock (kind_at s p) ≡ true → p ≢ r → r < p
@@ -48,6 +48,6 @@ module _ (s : SegmentValue) (legal : IsLegal s) (r : ℕ) (reference : IsReferen
             let rises = order_pair rows legal.tree.tree legal.tree.slaves p r (let less : p < r = omega (arith, before, other) in less) (omega (arith, many, there)) in
             let first = reference_first rows legal.tree.tree legal.tree.slaves (clock_at s.rows) reference.row reference.found (row_at s p) (omega (arith, within, rows_many))
             (sym (row_has has_clock s legal p low) ∙ clock) in
-            let same = ap (arrive rows) row_there in
+            let same = ap (arrive rows) first_row in
             absurd (omega (arith, rises, first, same))
       ]

@@ -6,7 +6,7 @@ use Rattle.std.proofs.lemmas.List.{append-nil}
 use Rattle.copy_law.specs.Drifting.{IsBehind}
 use Rattle.copy_law.specs.History.{brought_to, history_from}
 use Rattle.copy_law.specs.Receipts.{IsDriftFrame}
-use Rattle.copy_law.proofs.Drifting.{behind_induction, none_before, one_before}
+use Rattle.copy_law.proofs.Drifting.{behind_induction, found_behind, none_before, one_before}
 use Rattle.copy_law.proofs.History.{history_one, history_then}
 use Rattle.copy_law.proofs.Standing.{file_first, file_step}
 use Rattle.delay_law.specs.Far.{AreFar}
@@ -97,29 +97,42 @@ module _ (s : SegmentValue) (legal : IsLegal s) where
       → history_from (started_segment s) (es ++ e ∷ []) p ≡ history_from (started_segment s) es p ++ brought_to t e p (slice_get t.slaves p)
   history_on p es t e runs = history_then es (e ∷ []) (started_segment s) t p runs ∙ ap (λ (hs : List Happening). history_from (started_segment s) es p ++ hs) (history_one t e p)
 
-  -- What holds of the history that commissioning leaves, and is kept as each drift frame adds to it, holds of the history behind k of them.
-  module _ (p : ℕ) (first : RunEnd) (was : commissioned s ≡ Some first) (P : ℕ → SegmentState → List Happening → Type 0) (begins : P 0 first.state (history_from (started_segment s) first.exchanges p))
-      (goes : (k : ℕ) (t : SegmentState) (e : Exchange) (events : List Happening) → IsBehind s k t → IsDriftFrame s (k + 1) t e → P k t events
-      → P (k + 1) (segment_step t e.wait_ns e.sent).0 (events ++ brought_to t e p (slice_get t.slaves p))) where
-    abbrev Holds : ℕ → SegmentState → Type 0
-    Holds k t = (b : IsBehind s k t) → P k t (history_from (started_segment s) (b.first.exchanges ++ b.before) p)
+  -- The history behind no drift frame, and behind one more.
+  module _ (p : ℕ) where
+    abbrev behind : (k : ℕ) (t : SegmentState) → IsBehind s k t → List Happening
+    behind k t b = history_from (started_segment s) (b.first.exchanges ++ b.before) p
 
-    holds_first : Holds 0 first.state
-    holds_first b =
+    none_yet : (first : RunEnd) → commissioned s ≡ Some first → (b : IsBehind s 0 first.state) → behind 0 first.state b ≡ history_from (started_segment s) first.exchanges p
+    none_yet first was b =
         let same : b.first ≡ first = some_same (sym b.commissioned ∙ was) in
-        let here : b.first.exchanges ++ b.before ≡ first.exchanges =
-        ap (λ (es : List Exchange). b.first.exchanges ++ es) (none_before b.before b.number) ∙ append-nil b.first.exchanges ∙ ap (λ (r : RunEnd). r.exchanges) same in
-        subst (λ (es : List Exchange). P 0 first.state (history_from (started_segment s) es p)) (sym here) begins
+        ap (λ (es : List Exchange). history_from (started_segment s) es p)
+        (ap (λ (es : List Exchange). b.first.exchanges ++ es) (none_before b.before b.number) ∙ append-nil b.first.exchanges ∙ ap (λ (r : RunEnd). r.exchanges) same)
 
-    holds_next : (k : ℕ) (t : SegmentState) (e : Exchange) → IsBehind s k t → IsDriftFrame s (k + 1) t e → Holds k t → Holds (k + 1) (segment_step t e.wait_ns e.sent).0
-    holds_next k t e b f h c =
-        let u = (segment_step t e.wait_ns e.sent).0 in
+    one_longer : (k : ℕ) (t : SegmentState) (e : Exchange) (b : IsBehind s k t) → IsDriftFrame s (k + 1) t e → (c : IsBehind s (k + 1) (segment_step t e.wait_ns e.sent).0)
+        → behind (k + 1) (segment_step t e.wait_ns e.sent).0 c ≡ behind k t b ++ brought_to t e p (slice_get t.slaves p)
+    one_longer k t e b f c =
         let same : c.first ≡ b.first = some_same (sym c.commissioned ∙ b.commissioned) in
         let here : c.first.exchanges ++ c.before ≡ (b.first.exchanges ++ b.before) ++ e ∷ [] =
         ap (λ (r : RunEnd). r.exchanges ++ c.before) same ∙ ap (λ (es : List Exchange). b.first.exchanges ++ es) (one_before s legal k t e f b c) ∙ sym (append_assoc b.first.exchanges b.before (e ∷ [])) in
         let led = runs_then segment_step b.first.exchanges b.before (Some (started_segment s)) (Some b.first.state) (Some t) (commissioned_exchanges s b.first b.commissioned) b.led in
-        subst (λ (hs : List Happening). P (k + 1) u hs) (sym (ap (λ (es : List Exchange). history_from (started_segment s) es p) here ∙ history_on p (b.first.exchanges ++ b.before) t e led))
-        (goes k t e (history_from (started_segment s) (b.first.exchanges ++ b.before) p) b f (h b))
+        ap (λ (es : List Exchange). history_from (started_segment s) es p) here ∙ history_on p (b.first.exchanges ++ b.before) t e led
 
+  -- What holds of the history that commissioning leaves, and is kept as each drift frame adds to it, holds of the history behind k of them.
+  module _ (p : ℕ) (first : RunEnd) (was : commissioned s ≡ Some first) (P : ℕ → SegmentState → List Happening → Type 0) (begins : P 0 first.state (history_from (started_segment s) first.exchanges p))
+      (goes : (k : ℕ) (t : SegmentState) (e : Exchange) (events : List Happening) → IsBehind s k t → IsDriftFrame s (k + 1) t e → P k t events
+      → P (k + 1) (segment_step t e.wait_ns e.sent).0 (events ++ brought_to t e p (slice_get t.slaves p))) where
     pub history_induction : (k : ℕ) (t : SegmentState) (b : IsBehind s k t) → P k t (history_from (started_segment s) (b.first.exchanges ++ b.before) p)
-    history_induction k t b = behind_induction s first was Holds holds_first holds_next k t b b
+    history_induction k t b =
+        behind_induction s first was (λ (k : ℕ) (t : SegmentState). (b : IsBehind s k t) → P k t (behind p k t b))
+        (λ b. subst (P 0 first.state) (sym (none_yet p first was b)) begins)
+        (λ k t e b f h c. subst (P (k + 1) (segment_step t e.wait_ns e.sent).0) (sym (one_longer p k t e b f c)) (goes k t e (behind p k t b) b f (h b))) k t b b
+
+  -- The same where each drift frame is looked at with the history that it finds.
+  module _ (p : ℕ) (first : RunEnd) (was : commissioned s ≡ Some first) (P : ℕ → List Happening → Type 0) (begins : P 0 (history_from (started_segment s) first.exchanges p))
+      (goes : (k : ℕ) (t : SegmentState) (e : Exchange) (f : IsDriftFrame s (k + 1) t e) → P k (behind p k t (found_behind s legal k t e f))
+      → P (k + 1) (behind p k t (found_behind s legal k t e f) ++ brought_to t e p (slice_get t.slaves p))) where
+    pub frame_induction : (k : ℕ) (t : SegmentState) (b : IsBehind s k t) → P k (history_from (started_segment s) (b.first.exchanges ++ b.before) p)
+    frame_induction k t b =
+        behind_induction s first was (λ (k : ℕ) (t : SegmentState). (b : IsBehind s k t) → P k (behind p k t b))
+        (λ b. subst (P 0) (sym (none_yet p first was b)) begins)
+        (λ k t e b f h c. subst (P (k + 1)) (sym (one_longer p k t e (found_behind s legal k t e f) f c)) (goes k t e f (h (found_behind s legal k t e f)))) k t b b

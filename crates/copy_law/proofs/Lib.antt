@@ -24,6 +24,12 @@ mod Whole
 mod Histories
 mod Copies
 mod SystemTimes
+mod LockSizes
+mod Receiving
+mod Drawing
+mod Locked
+mod Passing
+mod CopiesNear
 pub mod Readings
 pub mod Times
 pub mod References

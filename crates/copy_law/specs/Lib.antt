@@ -6,3 +6,5 @@ pub mod Drifting
 pub mod Speeds
 pub mod History
 pub mod WholeTimes
+pub mod Together
+pub mod Drawn

@@ -33,6 +33,8 @@ ghost use Rattle.run_of_file.specs.MasterOfFile.{master_of};
 ghost use Rattle.delay_law.specs.Resting.{row_there, shown_at};
 ghost use Rattle.copy_law.specs.HeldOffsets.{AreSet, HoldsSet};
 ghost use Rattle.copy_law.specs.Drifting.{IsBehind, StandsBehind};
+ghost use Rattle.copy_law.specs.Drawn.{IsDrawing};
+ghost use Rattle.copy_law.specs.Together.{AreCopiesNear, AreLocked};
 ghost use Rattle.copy_law.specs.History.{clock_of, copy_of_run, history_from};
 ghost use Rattle.copy_law.specs.WholeTimes.{reference_time, whole_copy};
 ghost use Rattle.frame_pass.specs.ClockHistory.{HasHistory};
@@ -219,4 +221,25 @@ pub fn copies_are_whole()
     ensures reference { (s : SegmentValue) (first run : RunEnd) (r t : ℕ) → IsCommissioned s first → ran s ≡ Some run → IsReference s r
         → whole_copy s (words_after s first) r (history_from (started_segment s) run.exchanges r) t
         ≡ reference_time s (words_after s first) r t }
+{}
+
+/// After k drift frames each clock other than the reference has received nothing yet, or it is drawn by the last frame that came to it:
+/// its time is the reference's at that frame's arrival there, 10 ns for each of its own ticks since, and what is left of the difference
+/// that it then received. That difference is as small as the frames before have made it.
+pub fn clocks_are_drawn_in_runs()
+    ensures { (s : SegmentValue) (k r p : ℕ) (t : SegmentState) → IsLegal s → (behind : IsBehind s k t) → IsReference s r
+        → p < length s.rows → has_clock (kind_at s p) ≡ true → p ≢ r
+        → IsDrawing s behind.first k r p (history_from (started_segment s) (behind.first.exchanges ++ behind.before) p) }
+{}
+
+/// After K drift frames every difference that one of them brings a clock is at most Q of `loss_run` + 1 frame periods in size, and each
+/// difference before is at most Q of the reach.
+pub fn differences_are_locked()
+    ensures { (s : SegmentValue) → IsLegal s → AreLocked s }
+{}
+
+/// From the round trip of a frame after the last frame of settling on, to a period after the last frame of the run, the local copy of
+/// each clock is within X of that of the reference.
+pub fn copies_are_near()
+    ensures { (s : SegmentValue) → IsLegal s → AreCopiesNear s }
 {}
