@@ -1,429 +1,33 @@
 #!/usr/bin/env python3
-"""Looks for the greatest differences and the copies that are furthest apart, as parts of their bounds, over legal segment files at the limits.
+"""Looks for the greatest differences, and for the copies that are furthest apart, as parts of their bounds, over legal segment files.
 
-It plays the runs of the files by itself, from docs/DEFINITIONS.md and docs/FORMATS.md, and knows nothing of the program: each clock by its
-ticks in closed form, each frame at each clock. A third of the files is drawn, a third is made by hand for one of the bounds and varied, and
-a third are changes of the best files so far. Of each file it takes
+It plays the run of each file by itself, from docs/DEFINITIONS.md and docs/FORMATS.md: it knows nothing of the program. Four kinds of files
+come in turn: drawn ones of any kind; a few clocks at the ends of their tolerance, aimed at one gap between drift frames ("gap"); chains
+whose receive times all err to one side ("chain"); and changes of the best files so far ("changed", two of five). It looks for
 
-- the first difference that a clock receives, and all differences, over Q(Z);
-- the differences of drift frames numbered above K, over Q((m + 1)·F), and the last frame whose difference is above that, over K;
-- the copy of each clock less that of the reference at one instant, over X, right before and right after receipts, ticks and the end of the
-  corrections, from the end of settling to the end of the run.
+- any: the greatest difference that a clock receives, over Q(Z);
+- above K: the same of drift frames numbered above K, over Q((m + 1)·F);
+- last above: the number of the last drift frame whose difference is above Q((m + 1)·F), over K;
+- copies: how far the copies of a clock and of the reference are apart at one instant, over X, from the end of settling to the end of the
+  run: at and before receipts, ends of corrections, changes of a period, and the ticks of both clocks next to these.
 
-Every tenth file goes to the program too: it has to refuse what is refused here, and to write the same delays, bounds, numbers and edges. A
-bound that is passed, or a run that differs, ends it with status 1. The files of the greatest parts are kept in a folder.
+Every fifth file goes to the program too: it has to refuse what is refused here, and else to write the same delays, bounds, numbers and
+edges. A bound that is passed, or another answer of the program, ends the search with status 1. The file of each greatest part is kept.
 
-lock_in.py [PROGRAM [FILES [SEED [FOLDER]]]]: the program of crates/dc_cli/out, 12,000 files, seed 1 and no folder where they are not given.
+lock_in.py [PROGRAM [FILES [SEED [FOLDER]]]]: the program of crates/dc_cli/out, 12,000 files, seed 1 and a new folder where they are not
+given. The same seed gives the same files.
 """
-import bisect
 import json
 import multiprocessing
 import os
 import random
 import subprocess
 import sys
+import tempfile
+
+from played import NAMES, PORTS, TICK, WORD, Refused, Run, Tree
 
 HERE = os.path.dirname(os.path.abspath(__file__))
-PORTS = [3, 1, 2]
-TICK = 10_000_000
-WORD = 2**32
-
-
-def signed(number, bits):
-    number %= 2**bits
-    return number - 2**bits if number >= 2 ** (bits - 1) else number
-
-
-class Refused(Exception):
-    """A check that the file fails, or the step that its run loses."""
-
-
-# The clocks.
-
-class Oscillator:
-    """Ticks in pieces of one period each: the first tick of a piece, its instant, and the period from there on."""
-
-    def __init__(self, row):
-        self.pieces = [(1, row["phase_fs"], row["period_fs"])]
-        for rate in row.get("rates", []):
-            first, at, period = self.pieces[-1]
-            self.pieces.append((rate["tick"], at + (rate["tick"] - first) * period, rate["period_fs"]))
-        self.starts = [at for _, at, _ in self.pieces]
-
-    def ticks(self, t):
-        k = bisect.bisect_right(self.starts, t) - 1
-        if k < 0:
-            return 0
-        first, at, period = self.pieces[k]
-        return first + (t - at) // period
-
-    def instant(self, tick):
-        for first, at, period in reversed(self.pieces):
-            if first <= tick:
-                return at + (tick - first) * period
-        raise ValueError(tick)
-
-
-class Clock:
-    """A measuring slave's clock. Its word is kept as a whole number: only differences and copies are cut."""
-
-    def __init__(self, row, g, cycles):
-        self.osc, self.g = Oscillator(row), g
-        self.bits = 64 if row["clock"] == "c64" else 32
-        self.word, self.taken, self.left, self.count = row["start"], 0, 0, 0
-        self.offset = self.delay = 0
-        self.shift, self.sync1, self.cycles = row.get("shift_ns", 0), row.get("sync1_ns"), cycles
-        self.due, self.edges = [], {}
-
-    def after(self, k):
-        """The word after k more ticks, and what is left then to correct."""
-        done = min(abs(self.left), (self.count + k) // self.g) if self.left else 0
-        sign = 1 if self.left > 0 else -1
-        return self.word + 10 * k - sign * done, self.left - sign * done
-
-    def at(self, t):
-        """The local copy at t, if no difference comes before."""
-        return self.after(self.osc.ticks(t) - self.taken)[0] + self.offset
-
-    def advance(self, t):
-        k = self.osc.ticks(t) - self.taken
-        if self.due:
-            self.raise_edges(k)
-        self.word, left = self.after(k)
-        self.count = (self.count + k) % self.g if left else 0
-        self.left = left
-        self.taken += k
-
-    def receive(self, difference):
-        self.left, self.count = difference, 0
-
-    def arm(self, start, cycle):
-        self.cycle, self.edges = cycle, {}
-        self.due = [[0, (start + self.shift) % 2**self.bits, 0]]
-        if self.sync1:
-            self.due.append([1, (start + self.shift + self.sync1) % 2**self.bits, 0])
-
-    def raise_edges(self, k):
-        """The edges of the next k ticks."""
-        copy = self.word + self.offset
-        for due in self.due:
-            signal, value, index = due
-            while index < self.cycles:
-                gap = max(1, signed(value - copy, self.bits))
-                low, high = 1, gap // 9 + 2
-                while low < high:
-                    middle = (low + high) // 2
-                    if self.after(middle)[0] - self.word >= gap:
-                        high = middle
-                    else:
-                        low = middle + 1
-                if low > k:
-                    break
-                self.edges[signal, index] = self.osc.instant(self.taken + low)
-                value, index = (value + self.cycle) % 2**self.bits, index + 1
-            due[1:] = value, index
-
-
-# The tree.
-
-class Tree:
-    """Frame order and path sums, in fs."""
-
-    def __init__(self, rows):
-        number = {row["id"]: k for k, row in enumerate(rows)}
-        kids = {}
-        for row in rows:
-            if "parent" in row:
-                kids[number[row["parent"]], row["port"]] = number[row["id"]]
-            else:
-                root = number[row["id"]]
-        self.rows, self.parent, self.port, self.arrive, self.back = [], [], [], [], []
-        cable = rows[root]["cable_ps"] * 1000
-        self.way = self.visit(rows, kids, root, None, None, cable) + cable
-        self.children = [[port for port in PORTS if port in back] for back in self.back]
-
-    def visit(self, rows, kids, row, parent, port, at):
-        position = len(self.rows)
-        self.rows.append(rows[row])
-        self.parent.append(parent)
-        self.port.append(port)
-        self.arrive.append(at)
-        self.back.append({})
-        at += rows[row]["tp_ns"] * 1_000_000
-        for port in PORTS:
-            if (row, port) in kids:
-                child = kids[row, port]
-                cable = rows[child]["cable_ps"] * 1000
-                at = self.visit(rows, kids, child, position, port, at + cable) + cable
-                self.back[position][port] = at
-                at += rows[row]["tf_ns"] * 1_000_000
-        return at
-
-    def hop(self, position):
-        """The measuring parent, its port towards the position, and the clockless slaves in between."""
-        between, port, at = [], self.port[position], self.parent[position]
-        while at is not None and self.rows[at]["clock"] == "none":
-            if len(self.children[at]) > 1:
-                raise Refused("unmeasurable")
-            between.append(at)
-            port, at = self.port[at], self.parent[at]
-        if at is None:
-            raise Refused("unmeasurable")
-        return at, port, between
-
-
-# The run of a file.
-
-class Run:
-    """The run of a file up to its end, or Refused."""
-
-    def __init__(self, file):
-        self.plan(file)
-        self.check()
-        self.unit = {p: Clock(self.tree.rows[p], self.g, file["cycles"]) for p in self.measuring}
-        self.greatest = {"first": (0, 1), "all": (0, 1), "above K": (0, 1), "last above": (0, max(1, self.lock_in)), "copies": (0, 1)}
-        self.commission()
-        self.drift()
-
-    @classmethod
-    def planned(cls, file):
-        """A run of which only the tree and the numbers are there."""
-        run = cls.__new__(cls)
-        run.plan(file)
-        return run
-
-    def plan(self, file):
-        self.file = file
-        self.ppm_fs = 10 * file["ppm"]
-        self.period = file["frame_ns"] * 1_000_000
-        self.gaps = file["loss_run"] + 1
-        self.g = file["speed"] // 64
-        self.tree = Tree(file["slaves"])
-        rows = self.tree.rows
-        self.measuring = [p for p, row in enumerate(rows) if row["clock"] != "none"]
-        self.clocks = [p for p in self.measuring if rows[p]["clock"] != "r32"]
-        self.losses = {(loss["phase"], loss["number"]): loss["after"] for loss in file.get("losses", [])}
-        self.numbers()
-
-    # The numbers.
-
-    def g_of(self, length):
-        return TICK + self.ppm_fs * (length // (TICK - self.ppm_fs) + 2)
-
-    def q_of(self, length):
-        return 2 * self.g_of(length) // 1_000_000
-
-    def numbers(self):
-        """Those of the bounds and of the script; NoReference, Unmeasurable, TooSlow and NoLock on the way."""
-        file, tree = self.file, self.tree
-        if not self.clocks:
-            raise Refused("no reference")
-        self.reference = self.clocks[0]
-        self.hops = {p: tree.hop(p) for p in self.measuring[1:]}
-        if tree.way >= self.period:
-            raise Refused("too slow")
-        self.drifted = self.q_of(self.gaps * self.period)
-        gains = [k * self.period // (TICK + self.ppm_fs) // self.g - self.q_of(k * self.period) for k in range(1, self.gaps + 1)]
-        if min(gains) < 1:
-            raise Refused("no lock")
-        self.reach = self.q_of((3 * len(self.measuring) + 3 * len(self.clocks) + self.gaps) * self.period)
-        self.lock_in = self.gaps * -(-max(0, self.reach - self.drifted) // min(gains))
-        self.bound = {p: self.weigh(p) for p in self.clocks}
-        self.far = {p: self.apart(p) for p in self.clocks}
-        self.lead = (3 * len(self.clocks) + self.gaps + 1) * file["frame_ns"]
-        length = self.lead + (file["cycles"] + 2) * file["cycle_ns"]
-        self.run_frames = (length + length // 1000) // file["frame_ns"] + 3
-
-    def above(self, position):
-        """The measuring slaves above a position, from it on to the root, each with the port on the way down from the one before."""
-        chain = [(position, None)]
-        while chain[-1][0] in self.hops:
-            at, port, _ = self.hops[chain[-1][0]]
-            chain.append((at, port))
-        return chain
-
-    def weigh(self, position):
-        if position == self.reference:
-            return 0
-        here, there = self.above(position), self.above(self.reference)
-        parting = next(at for at, _ in here if at in [other for other, _ in there])
-        weight = self.weigh_from(here, parting) + self.weigh_from(there, parting)
-        return (weight * self.g_of(self.tree.way) + 1_000_000) // 2
-
-    def weigh_from(self, chain, parting):
-        if chain[0][0] == parting:
-            return 0
-        weight = 1 + (1 if self.tree.children[chain[0][0]] else 0)
-        for at, port in chain[1:]:
-            ports = self.tree.children[at]
-            if len(ports) > 1:
-                weight += 1 if port in (ports[0], ports[-1]) else 2
-            if at == parting:
-                break
-        return weight
-
-    def away(self, position):
-        return self.tree.arrive[position] - self.tree.arrive[self.reference]
-
-    def apart(self, position):
-        if position == self.reference:
-            return 0
-        return 1_000_000 * self.drifted + self.bound[position] + 2 * self.g_of(self.gaps * self.period + self.away(position))
-
-    def check(self):
-        """The checks that are left: Lead, LossRun, TooMuch."""
-        file, clocks, n = self.file, len(self.clocks), len(self.tree.rows)
-        if (3 * clocks + self.gaps + 3) * file["frame_ns"] + 3 * file["cycle_ns"] >= 2_000_000_000:
-            raise Refused("lead")
-        lost = {number for phase, number in self.losses if phase == "drift"}
-        if any(all(number + k in lost for k in range(self.gaps)) for number in lost):
-            raise Refused("loss run")
-        signals = clocks + sum("sync1_ns" in row for row in self.tree.rows)
-        frames = 3 * (n + len(self.measuring) + clocks + 3) + self.lock_in + self.gaps + 3 * clocks + self.run_frames
-        if frames > 100_000 or file["cycles"] * signals > 200_000:
-            raise Refused("too much")
-
-    # Commissioning.
-
-    def tries(self, phase, number, step):
-        """The number of the try that comes back."""
-        for more in range(3):
-            if (phase, number + more) not in self.losses:
-                return number + more
-        raise Refused("lost " + step)
-
-    def commission(self):
-        n, number = len(self.tree.rows), 0
-        steps = ["count"] + [f"identify {p}" for p in range(n)] + ["rate", "latch"]
-        steps += [f"times {p}" for p in self.measuring] + [f"set {p}" for p in self.clocks]
-        for step in steps:
-            number = self.tries("commission", number + 1, step)
-            if step == "latch":
-                self.latched = number
-        self.sent = number
-        at = self.latched * self.period
-        entered, self.latch = {}, {}
-        for p in self.measuring:
-            osc, start = self.unit[p].osc, self.unit[p].word
-            entered[p] = start + 10 * osc.ticks(at + self.tree.arrive[p])
-            self.latch[p] = {port: (start + 10 * osc.ticks(at + back) - entered[p]) % WORD for port, back in self.tree.back[p].items()}
-        paths = {self.measuring[0]: 0}
-        for p in self.measuring[1:]:
-            paths[p] = paths[self.hops[p][0]] + self.doubled(p)
-        for p in self.clocks:
-            clock = self.unit[p]
-            clock.delay = max(0, (paths[p] - paths[self.reference]) // 2)
-            clock.offset = (self.file["epoch_ns"] + clock.delay - entered[p]) % 2**clock.bits
-
-    def turned(self, position):
-        """S of a position: from its port 0 in until it sends back, in ns."""
-        row, ports = self.tree.rows[position], self.tree.children[position]
-        return self.latch[position][ports[-1]] + row["tf_ns"] if ports else row["tp_ns"]
-
-    def doubled(self, position):
-        at, port, between = self.hops[position]
-        row, before = self.tree.rows[at], None
-        for other in self.tree.children[at]:
-            if other == port:
-                break
-            before = other
-        time = self.latch[at][port] + (row["tp_ns"] if before is None else self.latch[at][before] + row["tf_ns"])
-        time += sum(self.tree.rows[p]["tp_ns"] - self.tree.rows[p]["tf_ns"] for p in between)
-        return time - self.turned(position)
-
-    # Settling, arming and running.
-
-    def drift(self):
-        settle = self.lock_in + self.gaps
-        number, brought = 0, None
-        for number in range(1, settle + 1):
-            time = self.send(number)
-            if ("drift", number) not in self.losses:
-                brought = time, self.sent + number
-        self.settled = (self.sent + settle) * self.period + self.tree.way
-        low, sending = brought
-        expected = self.file["epoch_ns"] + self.file["frame_ns"] * (sending - self.latched)
-        r = (expected + signed(low - expected, 32)) % 2**64
-        cycle = self.file["cycle_ns"]
-        self.start = (((r + self.lead) // cycle + 1) * cycle) % 2**64
-        self.seen = {p: [] for p in self.clocks}
-        for p in self.clocks:
-            last = self.tries("drift", number + 1, f"arm {p}")
-            for number in range(number + 1, last + 1):
-                self.send(number, p)
-        for number in range(number + 1, number + self.run_frames + 1):
-            self.send(number)
-        self.end = (self.sent + number + 1) * self.period
-        self.frames = self.sent + number
-        for p in self.clocks:
-            self.look(p, self.end + 1)
-            self.unit[p].advance(self.end)
-
-    def send(self, number, arms=None):
-        """Sends a drift frame, and gives the low half of the reference's time where it gets there."""
-        at = (self.sent + number) * self.period
-        reach = self.losses.get(("drift", number), len(self.tree.rows))
-        time = None
-        for p in self.clocks:
-            if p >= reach:
-                break
-            clock, here = self.unit[p], at + self.tree.arrive[p]
-            if p == self.reference:
-                time = clock.at(here) % WORD
-                if arms == p:
-                    clock.advance(here)
-                    clock.arm(self.start, self.file["cycle_ns"])
-                continue
-            if hasattr(self, "settled"):
-                self.look(p, here)
-            clock.advance(here)
-            difference = signed(clock.word + clock.offset - clock.delay - time, 32)
-            self.note(p, number, difference)
-            clock.receive(difference)
-            clock.since = here
-            if arms == p:
-                clock.arm(self.start, self.file["cycle_ns"])
-        return time
-
-    # What is looked for.
-
-    def take(self, name, size, bound):
-        if size * self.greatest[name][1] > self.greatest[name][0] * bound:
-            self.greatest[name] = size, bound
-
-    def note(self, position, number, difference):
-        size = abs(difference)
-        if not hasattr(self.unit[position], "since"):
-            self.take("first", size, self.reach)
-        self.take("all", size, self.reach)
-        if number > self.lock_in:
-            self.take("above K", size, self.drifted)
-        elif size > self.drifted:
-            self.take("last above", number, max(1, self.lock_in))
-
-    def look(self, p, until):
-        """The copies at instants before the one given, at which a difference comes, and from the last one on."""
-        clock = self.unit[p]
-        if p == self.reference or not hasattr(clock, "since"):
-            return
-        ours, theirs = clock.osc, self.unit[self.reference].osc
-        begin = max(clock.since, self.settled)
-        points = [begin, until - 1]
-        if clock.left:
-            points.append(ours.instant(clock.taken + clock.g * abs(clock.left) - clock.count))
-        for point in points:
-            near = [point, point - 1]
-            for osc in (ours, theirs):
-                tick = max(1, osc.ticks(max(point, 0)))
-                near += [osc.instant(tick), osc.instant(tick) - 1, osc.instant(tick + 1), osc.instant(tick + 1) - 1]
-            for t in near:
-                if begin <= t < until:
-                    self.compare(p, t)
-
-    def compare(self, p, t):
-        clock, reference = self.unit[p], self.unit[self.reference]
-        apart = signed(clock.at(t) - reference.at(t), min(clock.bits, reference.bits))
-        self.take("copies", 1_000_000 * abs(apart), self.far[p])
 
 
 # Files.
@@ -455,7 +59,7 @@ def fast_enough(file):
     return 128
 
 
-def timed(draw, kind, end, top=None):
+def timed(draw, kind, end):
     """What a measuring row has of its clock."""
     period = TICK + draw.choice([-end, end, end, -end, draw.randint(-end, end)])
     top = 2**64 if kind == "c64" else WORD
@@ -537,8 +141,8 @@ def opposed(draw, file, slave, first, last, fast):
     slave |= {"period_fs": period, "phase_fs": (first + (0 if fast else -1)) % period + 1, "rates": []}
 
 
-def apart(draw):
-    """Two to four clocks at the ends of their tolerance, aimed at one gap: from the latch on, or between two drift frames."""
+def gap(draw):
+    """Two to four clocks at the ends of their tolerance, aimed at one gap: from the latch on, or between two drift frames above K."""
     file = head(draw)
     file["ppm"] = max(1, file["ppm"]) if draw.random() < 0.9 else file["ppm"]
     n, gaps = draw.choice([2, 2, 2, 3, 4]), file["loss_run"] + 1
@@ -557,12 +161,15 @@ def apart(draw):
     if draw.random() < 0.4:
         first, last = n + 3, sent + (gaps if lost else 1)
     else:
-        # From a frame above K on each run of losses is as long as it may be.
-        begin = run.lock_in + draw.randint(1, gaps)
-        until = run.lock_in + gaps + 3 * n + run.run_frames
-        lost |= {("drift", number): draw.choice([0, 0, n]) for number in range(gaps + 1, until + 1) if (number - begin) % gaps and number not in ()}
-        gap = draw.randint(0, 3) if draw.random() < 0.8 else draw.randint(0, max(0, (until - begin) // gaps - 1))
-        first, last = sent + begin + gaps * gap, sent + begin + gaps * (gap + 1)
+        begin, settled = run.lock_in + draw.randint(1, gaps), run.lock_in + gaps
+        spared = range(settled + 1, settled + 3 * n + 1) if draw.random() < 0.5 else ()
+        until = settled + 3 * n + run.run_frames
+        for number in range(gaps + 1, until + 1):
+            if (number - begin) % gaps and number not in spared:
+                lost["drift", number] = draw.choice([0, 0, n])
+        later = draw.choice([0, 0, 1, 2, draw.randint(0, max(0, (until - begin) // gaps - 1))])
+        first = sent + begin + gaps * later
+        last = first + gaps
     reference_fast = draw.random() < 0.5
     for i, slave in enumerate(slaves):
         opposed(draw, file, slave, first * period + arrive[i], last * period + arrive[i], (i == 0) == reference_fast)
@@ -570,41 +177,41 @@ def apart(draw):
     return file | {"losses": rows}
 
 
-def branching(draw):
-    """A reference, a chain of slaves with leaves beside them, and a clock at its end: each receive time of the latch errs to the same side."""
-    chain = draw.choice([1, 2, 5, 20, 60, draw.randint(1, 120)])
-    file = head(draw, ppm=draw.choice([0, 1, 1, 2, 10]), frame_ns=draw.choice([50_000, 100_000, draw.randint(50_000, 200_000)]))
-    up, slaves = draw.random() < 0.5, []
-    tiny, turn = (1, 20) if up else (4999, 10)
-    for i in range(chain):
-        kind = draw.choice(["c64", "c32"]) if i == 0 else "r32"
-        slave = {"id": f"S{i}", "clock": kind, "tp_ns": 10, "tf_ns": 10, "cable_ps": 0}
+def chain(draw):
+    """A chain of slaves, each with a leaf beside it, and a clock at its end: each receive time of the latch errs to the same side.
+
+    The reference is the first slave of the chain, or the first leaf.
+    """
+    length = draw.choice([1, 2, 5, 20, 60, 127, draw.randint(1, 127)])
+    file = head(draw)
+    file |= {"ppm": draw.choice([0, 1, 1, 2, 10]), "frame_ns": draw.choice([50_000, 100_000, draw.randint(50_000, 200_000)])}
+    more, by_leaf = draw.random() < 0.5, draw.random() < 0.5
+    end, clock = 10 * file["ppm"], draw.choice(["c64", "c32"])
+    slaves = []
+    for i in range(length):
+        # What a leaf takes is a little more than whole ticks, or a little less.
+        kind, beside = ("r32", clock) if by_leaf else (clock, "none")
+        slave = {"id": f"S{i}", "clock": "r32" if i else kind, "tp_ns": 10, "tf_ns": 10, "cable_ps": 0}
+        leaf = {"id": f"L{i}", "clock": "none" if i else beside, "tp_ns": 20 if more else 10, "tf_ns": 10, "cable_ps": 1 if more else 4999}
+        leaf |= {"parent": f"S{i}", "port": 3}
         if i:
             slave |= {"parent": f"S{i - 1}", "port": 1}
-        leaf = {"id": f"L{i}", "clock": "none", "tp_ns": turn, "tf_ns": 10, "cable_ps": tiny, "parent": f"S{i}", "port": 3}
-        slaves += [slave | timed(draw, kind, 10 * file["ppm"]), leaf]
-    last = {"id": "E", "clock": draw.choice(["c64", "c32"]), "tp_ns": 10, "tf_ns": 10, "cable_ps": 0, "parent": f"S{chain - 1}", "port": 1}
-    slaves.append(last | timed(draw, last["clock"], 10 * file["ppm"]))
+        slaves += [row | (timed(draw, row["clock"], end) if row["clock"] != "none" else {}) for row in (slave, leaf)]
+    last = {"id": "E", "clock": draw.choice(["c64", "c32"]), "tp_ns": 10, "tf_ns": 10, "cable_ps": 0, "parent": f"S{length - 1}", "port": 1}
+    slaves.append(last | timed(draw, last["clock"], end))
+    turn_ps = Tree(slaves).back[0][1] // 1000
+    slaves[2]["cable_ps"] = ((2 if more else 9998) - turn_ps) % 10_000 // 2
     file = finished(draw, file, slaves, {})
-    tree = Tree(slaves)
-    root = tree.rows.index(slaves[0])
-    # The cable below the root makes up for what the first slave's whole turn is beyond its tens of ns.
-    turn_ps = (tree.back[root][1] - tree.arrive[root]) // 1000
-    below = slaves[2]
-    below["cable_ps"] = -(turn_ps - (2 if up else 9998)) % 10_000 // 2
-    file["speed"] = fast_enough(file)
-    tree = Tree(slaves)
-    at = (len(slaves) + 3) * file["frame_ns"] * 1_000_000
-    for p, slave in enumerate(tree.rows):
-        if slave["clock"] != "none" and slave["id"] != "E":
-            period = slave["period_fs"]
-            slave |= {"phase_fs": (at + tree.arrive[p] - (0 if up else 1)) % period + 1, "rates": []}
-    if draw.random() < 0.5:
-        slaves[0]["period_fs"] = TICK + (10 if up else -10) * file["ppm"]
-        last_row = slaves[-1]
-        last_row |= {"period_fs": TICK - (10 if up else -10) * file["ppm"], "rates": []}
-        last_row["phase_fs"] = min(last_row["phase_fs"], last_row["period_fs"])
-        slaves[0]["phase_fs"] = (at + tree.arrive[0] - (0 if up else 1)) % slaves[0]["period_fs"] + 1
+    run = Run.planned(file)
+    latch = (len(slaves) + 3) * run.period
+    for p, slave in enumerate(run.tree.rows):
+        if slave["clock"] != "none":
+            slave |= {"phase_fs": (latch + run.tree.arrive[p] - (0 if more else 1)) % slave["period_fs"] + 1, "rates": []}
+    if draw.random() < 0.7:
+        first = len(slaves) + 3 + len(run.measuring) + 2 + run.lock_in + draw.randint(1, run.run_frames)
+        for p in run.clocks[0 if by_leaf else 1 :]:
+            at = first * run.period + run.tree.arrive[p]
+            opposed(draw, file, run.tree.rows[p], at, at + run.period, (p != run.reference) == more)
     return file
 
 
@@ -644,11 +251,10 @@ def change(draw, file):
 
 # The search.
 
-NAMES = ["first", "all", "above K", "last above", "copies"]
-
-
 def told(run):
-    """What the program writes of a run, without what belongs to no clock, and the number of losses."""
+    """What the program writes of a run, without what belongs to no clock, and without the number of losses; None where a step is lost."""
+    if run is None or run.lost_step:
+        return None
     lines = [f"{p} {run.unit[p].delay} {run.away(p)} {run.bound[p]}" for p in run.clocks]
     lines += [f"lock_in {run.lock_in} difference_ns {run.drifted}", f"start {run.start}", f"frames {run.frames}"]
     rows = []
@@ -676,79 +282,90 @@ def answer(program, text):
     return lines
 
 
-def part(work):
-    program, files, seed, number = work
-    draw = random.Random(f"{seed} {number}")
-    best = {name: [] for name in NAMES}
-    counts = {"files": 0, "refused": 0, "compared": 0, "wrong": []}
-    i = 0
-    while counts["files"] < files:
-        i += 1
-        kind = ["drawn", "by hand", "varied", "varied"][i % 4]
+MADE = {"drawn": drawn, "gap": gap, "chain": chain}
+KINDS = [*MADE, "changed"]
+TURNS = ["drawn", "gap", "changed", "chain", "changed"]
+
+
+class Search:
+    """A part of the search, with draws of its own."""
+
+    def __init__(self, program, seed):
+        self.program, self.draw = program, random.Random(seed)
+        self.files = self.refused = self.compared = self.tried = 0
+        self.wrong = []
+        # By the name of a part: for each kind the best files, as (part, its two numbers, file).
+        self.best = {name: {kind: [] for kind in KINDS} for name in NAMES}
+
+    def file(self, kind):
+        if kind != "changed":
+            return MADE[kind](self.draw)
+        found = self.best[self.draw.choice(NAMES + ["copies"])]
+        return changed(self.draw, self.draw.choice([file for kept in found.values() for *_, file in kept]))
+
+    def step(self):
+        self.tried += 1
+        kind = TURNS[self.tried % len(TURNS)]
+        if kind == "changed" and self.files < 40:
+            return
+        run = None
         try:
-            if kind == "drawn":
-                file = drawn(draw)
-            elif kind == "by hand":
-                file = draw.choice([apart, apart, branching])(draw)
-            else:
-                pool = best[draw.choice(["first", "above K", "last above", "copies", "copies"])]
-                if not pool:
-                    continue
-                file = changed(draw, draw.choice(pool)[2])
-            if too_long(file):
-                continue
+            file = self.file(kind)
+            if too_long(Run.planned(file)):
+                return
             run = Run(file)
-        except Refused as refusal:
-            run = None
-        if i % 10 < 2:
-            theirs = answer(program, json.dumps(file).encode())
-            counts["compared"] += run is not None
-            if theirs != (told(run) if run else None):
-                counts["wrong"].append(("differs", json.dumps(file)))
-        if run is None:
-            counts["refused"] += 1
-            continue
-        counts["files"] += 1
-        for name in NAMES:
-            size, bound = run.greatest[name]
+        except Refused:
+            self.refused += 1
+        if self.draw.randrange(5) == 0:
+            self.compared += 1
+            if answer(self.program, json.dumps(file).encode()) != told(run):
+                self.wrong.append(("another answer", file))
+        if run:
+            self.files += 1
+            self.keep(kind, file, run)
+
+    def keep(self, kind, file, run):
+        for name, (size, bound) in run.greatest.items():
+            kept = self.best[name][kind]
+            kept.append((size / bound, f"{size} of {bound}", file))
+            kept.sort(key=lambda it: -it[0])
+            del kept[4:]
             if size > bound:
-                counts["wrong"].append((name, json.dumps(file)))
-            best[name].append((size / bound, f"{size} of {bound}", file, kind))
-            best[name].sort(key=lambda it: -it[0])
-            firsts = {}
-            for it in best[name]:
-                firsts.setdefault(it[3], it)
-            del best[name][8:]
-            best[name] += [it for it in firsts.values() if it not in best[name]]
-    return counts, best
+                self.wrong.append((f"{name}: {size} of {bound}", file))
 
 
-def too_long(file):
+def too_long(run):
     """Whether the run has too many visits for a search."""
-    run = Run.planned(file)
     return (run.lock_in + run.gaps + 3 * len(run.clocks) + run.run_frames) * len(run.clocks) > 6000
 
 
+def search(work):
+    program, files, seed = work
+    part = Search(program, seed)
+    while part.files < files:
+        part.step()
+    return part
+
+
 def main():
-    program = sys.argv[1] if len(sys.argv) > 1 else os.path.join(HERE, "../crates/dc_cli/out/dc_cli")
-    files = int(sys.argv[2]) if len(sys.argv) > 2 else 12_000
-    seed = int(sys.argv[3]) if len(sys.argv) > 3 else 1
-    folder = sys.argv[4] if len(sys.argv) > 4 else None
+    given = dict(enumerate(sys.argv))
+    program = given.get(1, os.path.join(HERE, "../crates/dc_cli/out/dc_cli"))
+    files, seed = int(given.get(2, 12_000)), given.get(3, "1")
+    folder = given.get(4) or tempfile.mkdtemp(prefix="lock_in.")
     with multiprocessing.Pool() as pool:
-        found = pool.map(part, [(program, files // 12, seed, number) for number in range(12)], 1)
-    counts = {key: sum(it[key] for it, _ in found) for key in ("files", "refused", "compared")}
-    wrong = [it for told, _ in found for it in told["wrong"]]
-    print("seed {seed}: {files} files, {refused} refused, {compared} of both compared with the program".format(seed=seed, **counts))
+        parts = pool.map(search, [(program, files // 12, f"{seed} {number}") for number in range(12)], 1)
+    files, refused, compared = (sum(getattr(it, what) for it in parts) for what in ("files", "refused", "compared"))
+    print(f"seed {seed}: {files} files, {refused} refused; {compared} of both given to the program")
     for name in NAMES:
-        for kind in ("drawn", "by hand", "varied"):
-            share, told, file, _ = max((it for _, best in found for it in best[name] if it[3] == kind), key=lambda it: it[0], default=(0, "none", {}, kind))
-            print(f"{name}, {kind}: {share:.4f} ({told})")
-            if folder:
-                with open(os.path.join(folder, f"{name} {kind}.json".replace(" ", "-")), "w") as sink:
-                    json.dump(file, sink)
-    for what, text in wrong:
-        print(f"wrong, {what}: {text}")
-    sys.exit(1 if wrong else 0)
+        for kind in KINDS:
+            share, numbers, file = max((it for part in parts for it in part.best[name][kind]), key=lambda it: it[0], default=(0, "no file", None))
+            path = os.path.join(folder, f"{name} {kind}.json".replace(" ", "_"))
+            with open(path, "w") as sink:
+                json.dump(file, sink)
+            print(f"{name}, {kind}: {share:.4f} ({numbers}), {path}")
+    for what, file in [it for part in parts for it in part.wrong]:
+        print(f"wrong, {what}: {json.dumps(file)}")
+    sys.exit(1 if any(part.wrong for part in parts) else 0)
 
 
 main()
