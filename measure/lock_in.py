@@ -5,7 +5,7 @@ It plays the run of each file by itself, from docs/DEFINITIONS.md and docs/FORMA
 come in turn: drawn ones of any kind; a few clocks at the ends of their tolerance, aimed at one gap between drift frames ("gap"); chains
 whose receive times all err to one side ("chain"); and changes of the best files so far ("changed", two of five). It looks for
 
-- any: the greatest difference that a clock receives, over Q(Z);
+- any difference: the greatest difference that a clock receives, over Q(Z);
 - above K: the same of drift frames numbered above K, over Q((m + 1)·F);
 - last above: the number of the last drift frame whose difference is above Q((m + 1)·F), over K;
 - copies: how far the copies of a clock and of the reference are apart at one instant, over X, from the end of settling to the end of the
@@ -25,36 +25,34 @@ import subprocess
 import sys
 import tempfile
 
-from played import NAMES, PORTS, TICK, WORD, Refused, Run, Tree
+from played import NAMES, PORTS, TICK, WORD, Refused, Run, Tree, lock_step
 
 HERE = os.path.dirname(os.path.abspath(__file__))
 
 
 # Files.
 
-def head(draw, **given):
-    """The numbers of a file; a speed that corrects just fast enough as often as not."""
+def head(draw):
+    """The numbers of a file."""
     ppm = draw.choice([0, 1, 2, 10, 25, 50, 100, 100, draw.randint(0, 100)])
-    frame_ns = draw.choice([50_000, 100_000, 100_000, 250_000, 1_000_000, 10_000_000, draw.randint(50_000, 10_000_000), draw.randint(50_000, 200_000)])
-    told = {
+    short, long = draw.randint(50_000, 200_000), draw.randint(50_000, 10_000_000)
+    epoch_ns = draw.choice([0, 8 * 10**17, 4 * 10**18, WORD * draw.randint(1, 2**29) - draw.randint(0, 10**9), draw.randrange(4 * 10**18)])
+    return {
         "version": 2,
         "ppm": ppm,
-        "frame_ns": frame_ns,
+        "frame_ns": draw.choice([50_000, 100_000, 250_000, 1_000_000, 10_000_000, short, long]),
         "speed": draw.choice([128, 4096, 16383, draw.randint(128, 16383)]),
         "loss_run": draw.choice([0, 1, 2, 3, 7, 15, draw.randint(0, 15)]),
-        "epoch_ns": draw.choice([0, 800_000_000_000_000_000, 4 * 10**18, WORD * draw.randint(1, 2**29) - draw.randint(0, 10**9), draw.randrange(4 * 10**18)]),
+        "epoch_ns": epoch_ns,
         "cycle_ns": draw.choice([50_000, 1_000_000, draw.randint(50_000, 10_000_000)]),
         "cycles": draw.choice([1, 2, 5, 20]),
     }
-    return told | given
 
 
 def fast_enough(file):
     """The greatest speed counter start with which the clocks lock, where that of the file is too great."""
-    e, period = 10 * file["ppm"], file["frame_ns"] * 1_000_000
-    for speed in [file["speed"]] + list(range(16383, 127, -64)):
-        g = speed // 64
-        if all(k * period // (TICK + e) // g > 2 * (TICK + e * (k * period // (TICK - e) + 2)) // 1_000_000 for k in range(1, file["loss_run"] + 2)):
+    for speed in [file["speed"], *range(16383, 127, -64)]:
+        if lock_step(file | {"speed": speed}) >= 1:
             return speed
     return 128
 
@@ -111,6 +109,7 @@ def drawn(draw):
 
 
 def finished(draw, file, slaves, lost):
+    """The file, mostly with a speed that corrects fast enough."""
     if draw.random() < 0.8:
         file["speed"] = fast_enough(file)
     rows = [{"phase": phase, "number": number, "after": after} for (phase, number), after in sorted(lost.items())]
@@ -118,7 +117,7 @@ def finished(draw, file, slaves, lost):
 
 
 def late(n, measuring, clocks, gaps):
-    """The losses that make the first drift frame as late as can be: two tries of each exchange after the latch, and loss_run drift frames."""
+    """The losses that make the first drift frame as late as can be: two tries of each exchange after the latch, and then m drift frames."""
     lost = {}
     for step in range(measuring + clocks):
         for k in (1, 2):
@@ -129,7 +128,7 @@ def late(n, measuring, clocks, gaps):
 
 
 def opposed(draw, file, slave, first, last, fast):
-    """Gives a clock a period at an end of its tolerance, with ticks right behind the first instant and at the last one, or as few as can be."""
+    """Gives a clock a period at an end of its tolerance, and the phase with the most ticks between two instants, or with the fewest."""
     end, most = 10 * file["ppm"], None
     for less in range(0, min(end, 400) + 1):
         period = TICK + (less - end if fast else end - less)
@@ -164,9 +163,10 @@ def gap(draw):
         begin, settled = run.lock_in + draw.randint(1, gaps), run.lock_in + gaps
         spared = range(settled + 1, settled + 3 * n + 1) if draw.random() < 0.5 else ()
         until = settled + 3 * n + run.run_frames
+        reached = draw.choice([[0], [0], [0, 1, n]])
         for number in range(gaps + 1, until + 1):
             if (number - begin) % gaps and number not in spared:
-                lost["drift", number] = draw.choice([0, 0, n])
+                lost["drift", number] = draw.choice(reached)
         later = draw.choice([0, 0, 1, 2, draw.randint(0, max(0, (until - begin) // gaps - 1))])
         first = sent + begin + gaps * later
         last = first + gaps
@@ -230,22 +230,24 @@ def change(draw, file):
     if what <= 3:
         slave["phase_fs"] += draw.choice([-1, 1, draw.randint(-100, 100), draw.randint(-TICK, TICK)])
     elif what == 4:
-        slave["period_fs"] = min(TICK + end, max(TICK - end, slave["period_fs"] + draw.choice([-1, 1, draw.randint(-30, 30), 2 * end, -2 * end])))
+        period = slave["period_fs"] + draw.choice([-1, 1, draw.randint(-30, 30), 2 * end, -2 * end])
+        slave["period_fs"] = min(TICK + end, max(TICK - end, period))
     elif what == 5:
         slave = draw.choice(file["slaves"])
         slave["cable_ps"] = max(0, slave["cable_ps"] + draw.choice([-1, 1, draw.randint(-5000, 5000)]))
     elif what == 6:
-        file["frame_ns"] = min(10_000_000, max(50_000, file["frame_ns"] + draw.choice([-1, 1, draw.randint(-20, 20), draw.randint(-2000, 2000)])))
+        frame_ns = file["frame_ns"] + draw.choice([-1, 1, draw.randint(-20, 20), draw.randint(-2000, 2000)])
+        file["frame_ns"] = min(10_000_000, max(50_000, frame_ns))
     elif what == 7:
         file["speed"] = min(16383, max(128, file["speed"] + draw.choice([-64, 64, draw.randint(-2000, 2000)])))
     elif what == 8:
-        number = draw.randint(1, 60)
-        kept = [loss for loss in file["losses"] if (loss["phase"], loss["number"]) != ("drift", number)]
-        file["losses"] = kept if len(kept) < len(file["losses"]) else kept + [{"phase": "drift", "number": number, "after": draw.randint(0, len(file["slaves"]))}]
+        number, losses = draw.randint(1, 60), file["losses"]
+        kept = [loss for loss in losses if (loss["phase"], loss["number"]) != ("drift", number)]
+        more = {"phase": "drift", "number": number, "after": draw.randint(0, len(file["slaves"]))}
+        file["losses"] = kept if len(kept) < len(losses) else [*kept, more]
     else:
         slave["tp_ns"] = min(10_000, max(1, slave["tp_ns"] + draw.choice([-1, 1])))
-    slave = slave if "period_fs" in slave else None
-    if slave:
+    if "period_fs" in slave:
         slave["phase_fs"] = (slave["phase_fs"] - 1) % slave["period_fs"] + 1
 
 
@@ -298,24 +300,27 @@ class Search:
         self.best = {name: {kind: [] for kind in KINDS} for name in NAMES}
 
     def file(self, kind):
-        if kind != "changed":
+        """A file of a kind; None where its numbers leave none to be made."""
+        if kind == "changed":
+            found = self.best[self.draw.choice(NAMES + ["copies"])]
+            return changed(self.draw, self.draw.choice([file for kept in found.values() for *_, file in kept]))
+        try:
             return MADE[kind](self.draw)
-        found = self.best[self.draw.choice(NAMES + ["copies"])]
-        return changed(self.draw, self.draw.choice([file for kept in found.values() for *_, file in kept]))
+        except Refused:
+            return None
 
     def step(self):
         self.tried += 1
         kind = TURNS[self.tried % len(TURNS)]
         if kind == "changed" and self.files < 40:
             return
-        run = None
+        file = self.file(kind)
+        if file is None or is_long(file):
+            return
         try:
-            file = self.file(kind)
-            if too_long(Run.planned(file)):
-                return
             run = Run(file)
         except Refused:
-            self.refused += 1
+            run = None
         if self.draw.randrange(5) == 0:
             self.compared += 1
             if answer(self.program, json.dumps(file).encode()) != told(run):
@@ -323,6 +328,8 @@ class Search:
         if run:
             self.files += 1
             self.keep(kind, file, run)
+        else:
+            self.refused += 1
 
     def keep(self, kind, file, run):
         for name, (size, bound) in run.greatest.items():
@@ -334,8 +341,12 @@ class Search:
                 self.wrong.append((f"{name}: {size} of {bound}", file))
 
 
-def too_long(run):
+def is_long(file):
     """Whether the run has too many visits for a search."""
+    try:
+        run = Run.planned(file)
+    except Refused:
+        return False
     return (run.lock_in + run.gaps + 3 * len(run.clocks) + run.run_frames) * len(run.clocks) > 6000
 
 
@@ -358,7 +369,8 @@ def main():
     print(f"seed {seed}: {files} files, {refused} refused; {compared} of both given to the program")
     for name in NAMES:
         for kind in KINDS:
-            share, numbers, file = max((it for part in parts for it in part.best[name][kind]), key=lambda it: it[0], default=(0, "no file", None))
+            found = [it for part in parts for it in part.best[name][kind]]
+            share, numbers, file = max(found, key=lambda it: it[0], default=(0, "no file", None))
             path = os.path.join(folder, f"{name} {kind}.json".replace(" ", "_"))
             with open(path, "w") as sink:
                 json.dump(file, sink)

@@ -14,7 +14,8 @@ def signed(number, bits):
     return number - 2**bits if number >= 2 ** (bits - 1) else number
 
 
-NAMES = ["any", "above K", "last above", "copies"]
+# What is looked for in a run (lock_in.py).
+NAMES = ["any difference", "above K", "last above", "copies"]
 
 
 class Refused(Exception):
@@ -157,6 +158,22 @@ class Tree:
 
 # The run of a file.
 
+def bound_fs(e, length):
+    """G: how far ticks and true time come apart in a length of fs."""
+    return TICK + e * (length // (TICK - e) + 2)
+
+
+def jump(e, length):
+    """Q: the same of two clocks, in ns."""
+    return 2 * bound_fs(e, length) // 1_000_000
+
+
+def lock_step(file):
+    """The least gain μ of the gaps between drift frames, in ns."""
+    e, period, g = 10 * file["ppm"], file["frame_ns"] * 1_000_000, file["speed"] // 64
+    return min(k * period // (TICK + e) // g - jump(e, k * period) for k in range(1, file["loss_run"] + 2))
+
+
 class Run:
     """The run of a file up to its end, or Refused."""
 
@@ -190,12 +207,6 @@ class Run:
 
     # The numbers.
 
-    def g_of(self, length):
-        return TICK + self.ppm_fs * (length // (TICK - self.ppm_fs) + 2)
-
-    def q_of(self, length):
-        return 2 * self.g_of(length) // 1_000_000
-
     def numbers(self):
         """Those of the bounds and of the script; NoReference, Unmeasurable, TooSlow and NoLock on the way."""
         file, tree = self.file, self.tree
@@ -205,12 +216,12 @@ class Run:
         self.hops = {p: tree.hop(p) for p in self.measuring[1:]}
         if tree.way >= self.period:
             raise Refused("too slow")
-        self.drifted = self.q_of(self.gaps * self.period)
-        gains = [k * self.period // (TICK + self.ppm_fs) // self.g - self.q_of(k * self.period) for k in range(1, self.gaps + 1)]
-        if min(gains) < 1:
+        self.drifted = jump(self.ppm_fs, self.gaps * self.period)
+        step = lock_step(file)
+        if step < 1:
             raise Refused("no lock")
-        self.reach = self.q_of((3 * len(self.measuring) + 3 * len(self.clocks) + self.gaps) * self.period)
-        self.lock_in = self.gaps * -(-max(0, self.reach - self.drifted) // min(gains))
+        self.reach = jump(self.ppm_fs, (3 * len(self.measuring) + 3 * len(self.clocks) + self.gaps) * self.period)
+        self.lock_in = self.gaps * -(-max(0, self.reach - self.drifted) // step)
         self.bound = {p: self.weigh(p) for p in self.clocks}
         self.far = {p: self.apart(p) for p in self.clocks}
         self.lead = (3 * len(self.clocks) + self.gaps + 1) * file["frame_ns"]
@@ -231,7 +242,7 @@ class Run:
         here, there = self.above(position), self.above(self.reference)
         parting = next(at for at, _ in here if at in [other for other, _ in there])
         weight = self.weigh_from(here, parting) + self.weigh_from(there, parting)
-        return (weight * self.g_of(self.tree.way) + 1_000_000) // 2
+        return (weight * bound_fs(self.ppm_fs, self.tree.way) + 1_000_000) // 2
 
     def weigh_from(self, chain, parting):
         if chain[0][0] == parting:
@@ -251,7 +262,7 @@ class Run:
     def apart(self, position):
         if position == self.reference:
             return 0
-        return 1_000_000 * self.drifted + self.bound[position] + 2 * self.g_of(self.gaps * self.period + self.away(position))
+        return 1_000_000 * self.drifted + self.bound[position] + 2 * bound_fs(self.ppm_fs, self.gaps * self.period + self.away(position))
 
     def check(self):
         """The checks that are left: Lead, LossRun, TooMuch."""
@@ -384,7 +395,7 @@ class Run:
 
     def note(self, position, number, difference):
         size = abs(difference)
-        self.take("any", size, self.reach)
+        self.take("any difference", size, self.reach)
         if number > self.lock_in:
             self.take("above K", size, self.drifted)
         elif size > self.drifted:
