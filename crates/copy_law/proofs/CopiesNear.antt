@@ -1,6 +1,6 @@
 -- The local copies of a run stay within X of that of the reference.
 use Rattle.std.proofs.Common.{◌≡◌, ◌≢◌, ◌⊎◌, ℕ, ◌+◌, ◌-◌, ◌*◌, ◌%◌, ◌^◌, ◌<◌, ◌≤◌, Bool, true, false, List, [], ◌∷◌, ◌++◌, length, length-append, Option, Some, None, Ok, Err, inl, inr, refl, sym, ap, ap₂, subst, ◌∙◌, append_assoc, arith}
-use Rattle.std.specs.Prelude.{ℤ, if◌then◌else◌, is_some, min, nat_eq, negsuc, pos, ◌+ℤ◌, ◌-ℤ◌, slice_get, slice_index_or, unsigned_abs, unwrap_or}
+use Rattle.std.specs.Prelude.{ℤ, if◌then◌else◌, is_some, min, nat_eq, negsuc, pos, ◌+ℤ◌, ◌-ℤ◌, slice_index_or, unsigned_abs, unwrap_or}
 use Rattle.std.specs.List.{AllByRecursion}
 use Rattle.std.proofs.Math.Nat.{add-mul, mul-le-mul_right}
 use Rattle.std.proofs.lemmas.Bool.{cases_lt}
@@ -12,24 +12,24 @@ use Rattle.cable_tree.specs.Positions.{position_of}
 use Rattle.cable_tree.proofs.Exported.{inside, order_pair}
 use Rattle.copy_law.specs.Drawn.{IsDrawnBy, IsUndrawn, arrives_at}
 use Rattle.copy_law.specs.Drifting.{IsBehind}
-use Rattle.copy_law.specs.History.{clock_of, copy_of_run, history_from}
+use Rattle.copy_law.specs.History.{clock_of, history_from}
 use Rattle.copy_law.specs.Receipts.{IsReference}
 use Rattle.copy_law.specs.SinceLatch.{latch_arrival}
 use Rattle.copy_law.specs.Together.{AreCopiesNear, copies_apart, reach_of_segment}
 use Rattle.copy_law.specs.WholeTimes.{reference_time, whole_copy, whole_time}
-use Rattle.copy_law.proofs.Copies.{copy_then, ordered, reference_then, the_reference, time_rises, whole}
+use Rattle.copy_law.proofs.Copies.{copy_then, ordered, reference_then, time_rises, whole}
 use Rattle.copy_law.proofs.Drawing.{silent_few, ticks_over}
 use Rattle.copy_law.proofs.First.{behind_reference, first_row, reference_clock, reference_low}
 use Rattle.copy_law.proofs.Latched.{latched_within}
-use Rattle.copy_law.proofs.LockSizes.{draws, periods_between, whole_since, wide}
+use Rattle.copy_law.proofs.LockSizes.{draws, periods_between, whole_since}
 use Rattle.copy_law.proofs.Passing.{IsCut, cut_at}
 use Rattle.copy_law.proofs.Readings.{clock_measures}
 use Rattle.copy_law.proofs.Whole.{order_later, whole_not_yet}
 use Rattle.dc_bounds.specs.CopyBound.{copy_bound}
 use Rattle.dc_bounds.specs.LockNumbers.{period_fs, silence_fs, ticks_to_correction as ticks_by_speed}
 use Rattle.dc_bounds.specs.TickBounds.{jump}
-use Rattle.dc_bounds.specs.TickFacts.{AreTicksOf, IsNear, IsWithin}
-use Rattle.dc_bounds.proofs.Exported.{copies_near, drawn_locked, reference_first}
+use Rattle.dc_bounds.specs.TickFacts.{IsNear, IsWithin}
+use Rattle.dc_bounds.proofs.Exported.{copies_near, drawn_locked}
 use Rattle.delay_law.specs.Resting.{row_there}
 use Rattle.delay_law.proofs.Exported.{commissioned_near, keeps_there, kept_delays}
 use Rattle.esc_regs.specs.Kinds.{has_clock}
@@ -38,11 +38,10 @@ use Rattle.esc_regs.specs.declared.clock_kind.ClockKind.TheVariants as kind
 use Rattle.frame_pass.specs.SlaveState.{width}
 use Rattle.honest_slaves.specs.FileSlaves.{kind_at}
 use Rattle.honest_slaves.proofs.Exported.{delays_there, row_has}
-use Rattle.local_clock.specs.LocalTime.{local_time, whole_clock_at}
+use Rattle.local_clock.specs.LocalTime.{local_time}
 use Rattle.local_clock.specs.Reading.{AreInOrder, Clock, Happening}
 use Rattle.local_clock.specs.Since.{IsSince, receipt}
 use Rattle.local_clock.proofs.Exported.{rises, since_receipt}
-use Rattle.master_script.specs.Config.{settle_frames}
 use Rattle.master_script.specs.Script.{Arm, Call, Run, Settle}
 use Rattle.ecat_link.specs.Exchanges.{Exchange}
 use Rattle.master_script.specs.Words.{Words, delay_at, delays_of}
@@ -56,10 +55,9 @@ use Rattle.segment_bounds.specs.Bounds.{copy_bound_at, delay_bound_at, reference
 use Rattle.segment_bounds.proofs.Exported.{small_copy_bound}
 use Rattle.segment_file.specs.Faults.{lock_in}
 use Rattle.segment_file.specs.Legal.{IsLegal}
-use Rattle.segment_file.specs.Segment.{SegmentValue, clock_at, counts_of, oscillator, row_at, tree_row, tree_rows}
+use Rattle.segment_file.specs.Segment.{SegmentValue, counts_of, oscillator, row_at, tree_row, tree_rows}
 use Rattle.segment_file.proofs.Exported.{legal_reference, order_many, row_within}
 use Rattle.segment_start.specs.Start.{started_segment}
-use Rattle.wrap_time.specs.NearNumbers.{AreNear}
 use Rattle.wrap_time.specs.WordDifference.{word_difference}
 use Rattle.wrap_time.proofs.Exported.{cut_of_cut, word_difference_near}
 

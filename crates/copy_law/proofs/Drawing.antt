@@ -1,19 +1,18 @@
 -- Behind each drift frame a clock has received nothing yet, or is drawn to the reference by the last frame that came to it.
-use Rattle.std.proofs.Common.{◌≡◌, ◌≢◌, ◌⊎◌, ℕ, ◌+◌, ◌-◌, ◌*◌, ◌/◌, ◌<◌, ◌≤◌, Bool, true, false, List, [], ◌∷◌, ◌++◌, length, Option, Some, Ok, inl, inr, refl, sym, ap, ap₂, subst, ◌∙◌, arith}
-use Rattle.std.specs.Prelude.{IfSome, ℤ, min, pos, ◌+ℤ◌, ◌-ℤ◌, option_map, slice_get, unsigned_abs}
+use Rattle.std.proofs.Common.{◌≡◌, ◌≢◌, ℕ, ◌+◌, ◌-◌, ◌*◌, ◌/◌, ◌<◌, ◌≤◌, Bool, true, false, List, [], ◌∷◌, ◌++◌, length, Option, Some, inl, inr, refl, sym, ap, subst, ◌∙◌, arith}
+use Rattle.std.specs.Prelude.{IfSome, min, pos, ◌+ℤ◌, ◌-ℤ◌, option_map, slice_get, unsigned_abs}
 use Rattle.std.proofs.Math.Nat.{mul-le-mul_right}
 use Rattle.std.proofs.lemmas.Bool.{cases_lt}
 use Rattle.std.proofs.lemmas.Int.{ints}
 use Rattle.std.proofs.lemmas.List.{append-nil}
 use Rattle.std.proofs.lemmas.List.Elements.{All-weaker}
 use Rattle.copy_law.specs.Drawn.{AreMissed, IsDrawing, IsDrawnBy, IsUndrawn, arrives_at}
-use Rattle.copy_law.specs.Drifting.{IsBehind, StandsBehind}
+use Rattle.copy_law.specs.Drifting.{IsBehind}
 use Rattle.copy_law.specs.History.{brought_to, clock_of, history_from}
-use Rattle.copy_law.specs.DriftFrames.{IsDriftFrame, sent_at}
+use Rattle.copy_law.specs.DriftFrames.{IsDriftFrame}
 use Rattle.copy_law.specs.Receipts.{IsReference, receives}
 use Rattle.copy_law.specs.SinceLatch.{latch_arrival}
 use Rattle.copy_law.specs.Together.{reach_of_segment}
-use Rattle.copy_law.specs.Untouched.{ticks_to_correction}
 use Rattle.copy_law.specs.WholeTimes.{reference_time, whole_time}
 use Rattle.copy_law.proofs.Behind.{commissioned_ok}
 use Rattle.copy_law.proofs.Bringing.{one_received}
@@ -21,7 +20,7 @@ use Rattle.copy_law.proofs.Copies.{ordered, time_rises}
 use Rattle.copy_law.proofs.FewBehind.{few_behind}
 use Rattle.copy_law.proofs.First.{reference_clock, reference_low}
 use Rattle.copy_law.proofs.Histories.{first_resets, frame_induction}
-use Rattle.copy_law.proofs.History.{has_behind, running}
+use Rattle.copy_law.proofs.History.{has_behind}
 use Rattle.copy_law.proofs.Latched.{latched_within}
 use Rattle.copy_law.proofs.LockSizes.{draws, periods_between, reach_small, silence_less, whole_since}
 use Rattle.copy_law.proofs.Readings.{clock_measures}
@@ -40,7 +39,7 @@ use Rattle.ecat_link.specs.Exchanges.{Exchange}
 use Rattle.esc_regs.specs.Kinds.{has_clock}
 use Rattle.frame_pass.specs.ClockHistory.{IsOf}
 use Rattle.frame_pass.specs.SegmentState.{SegmentState}
-use Rattle.frame_pass.specs.SlaveState.{Slave, Timing, width}
+use Rattle.frame_pass.specs.SlaveState.{Timing, width}
 use Rattle.honest_slaves.specs.FileSlaves.{kind_at}
 use Rattle.honest_slaves.proofs.Exported.{had_before}
 use Rattle.local_clock.specs.LocalTime.{local_time, whole_clock_at}
@@ -52,7 +51,7 @@ use Rattle.osc_clock.specs.Ticks.{IsRunning, Oscillator, ticks}
 use Rattle.osc_clock.proofs.Exported.{ticks_rise}
 use Rattle.run_of_file.specs.Commissioned.{words_after}
 use Rattle.run_of_file.specs.MasterOfFile.{master_of}
-use Rattle.run_of_file.specs.RunOfFile.{RunEnd, commissioned}
+use Rattle.run_of_file.specs.RunOfFile.{RunEnd}
 use Rattle.segment_file.specs.Legal.{IsLegal}
 use Rattle.segment_file.specs.Segment.{SegmentValue, clocks, measuring, oscillator}
 use Rattle.segment_start.specs.Start.{started_segment}

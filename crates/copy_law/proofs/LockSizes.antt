@@ -1,22 +1,20 @@
 -- The sizes of the differences of a legal segment.
-use Rattle.std.proofs.Common.{◌≡◌, ℕ, ◌+◌, ◌-◌, ◌*◌, ◌%◌, ◌^◌, ◌<◌, ◌≤◌, Bool, true, false, Option, Some, None, refl, sym, ap, ap₂, ◌∙◌, arith}
-use Rattle.std.specs.Prelude.{ℤ, pos, negsuc, ◌+ℤ◌, ◌-ℤ◌, ◌≤ℤ◌, int_lt, nat_le, unsigned_abs}
+use Rattle.std.proofs.Common.{◌≡◌, ℕ, ◌+◌, ◌-◌, ◌*◌, ◌%◌, ◌^◌, ◌≤◌, Bool, true, false, Option, Some, None, refl, ap, ap₂, ◌∙◌, arith}
+use Rattle.std.specs.Prelude.{ℤ, pos, negsuc, ◌+ℤ◌, ◌-ℤ◌, ◌≤ℤ◌, int_lt, unsigned_abs}
 use Rattle.std.proofs.Math.Nat.{add-mul}
 use Rattle.std.proofs.lemmas.Int.{ints}
 use Rattle.std.proofs.lemmas.List.{length-map}
-use Rattle.cable_tree.specs.PathSums.{round_trip}
 use Rattle.copy_law.specs.Together.{reach_of_segment}
-use Rattle.dc_bounds.specs.LockNumbers.{lock_step, period_fs, silence_fs}
+use Rattle.dc_bounds.specs.LockNumbers.{lock_step, silence_fs}
 use Rattle.dc_bounds.specs.TickBounds.{jump}
 use Rattle.dc_bounds.proofs.Exported.{reach_few, silence_within}
 use Rattle.esc_regs.specs.declared.clock_kind.ClockKind.{ClockKind}
 use Rattle.esc_regs.specs.declared.clock_kind.ClockKind.TheVariants as kind
 use Rattle.frame_pass.specs.SlaveState.{width}
-use Rattle.segment_file.specs.Faults.{Fault, ahead_ns, fault_if, first_of, lead, no_lock, step_of, time_fault, too_slow}
+use Rattle.segment_file.specs.Faults.{Fault, fault_if, first_of, no_lock, step_of, time_fault}
 use Rattle.segment_file.specs.Legal.{IsLegal}
 use Rattle.segment_file.specs.Segment.{SegmentValue, clocks, counts_of, measuring, tree_row, tree_rows}
 use Rattle.segment_file.proofs.Exported.{counted, faultless}
-use Rattle.wrap_time.specs.NearNumbers.{AreNear}
 use Rattle.wrap_time.specs.WordDifference.{word_difference}
 use Rattle.wrap_time.proofs.Exported.{cut_of_cut, word_difference_near}
 

@@ -1,13 +1,11 @@
 -- What a drift frame brings a clock is a whole number of ns, as soon as that number is small.
-use Rattle.std.proofs.Common.{◌≡◌, ℕ, ◌+◌, ◌*◌, ◌%◌, ◌^◌, ◌<◌, ◌≤◌, Bool, true, false, List, [], ◌∷◌, ◌++◌, length, Option, Some, Ok, refl, sym, ap, ap₂, subst, ◌∙◌, arith}
+use Rattle.std.proofs.Common.{◌≡◌, ℕ, ◌+◌, ◌%◌, ◌^◌, ◌<◌, ◌≤◌, Bool, true, false, List, [], ◌∷◌, ◌++◌, length, Option, Some, Ok, ap, ap₂, subst, ◌∙◌, arith}
 use Rattle.std.specs.Prelude.{IfSome, ℤ, if◌then◌else◌, pos, ◌-ℤ◌, slice_get, unsigned_abs}
-use Rattle.std.proofs.lemmas.List.{append-nil}
 use Rattle.copy_law.specs.Drawn.{arrives_at}
 use Rattle.copy_law.specs.Drifting.{IsBehind, StandsBehind}
-use Rattle.copy_law.specs.History.{brought_to, clock_of, history_from}
+use Rattle.copy_law.specs.History.{brought_to, history_from}
 use Rattle.copy_law.specs.DriftFrames.{IsDriftFrame, sent_at}
 use Rattle.copy_law.specs.Receipts.{IsReference, arrival_time, receipt as receipt_of, receives, time_of}
-use Rattle.copy_law.specs.SinceLatch.{latch_arrival}
 use Rattle.copy_law.specs.WholeTimes.{reference_time, whole_time}
 use Rattle.copy_law.proofs.Behind.{commissioned_ok}
 use Rattle.copy_law.proofs.Bringing.{frame_brings}
