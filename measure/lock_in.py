@@ -9,9 +9,10 @@ whose receive times all err to one side ("chain"); and changes of the best files
 - above K: the same of drift frames numbered above K, over Q((m + 1)·F);
 - last above: the number of the last drift frame whose difference is above Q((m + 1)·F), over K;
 - copies: how far the copies of a clock and of the reference are apart at one instant, over X, from the end of settling to the end of the
-  run: at and before receipts, ends of corrections, changes of a period, and the ticks of both clocks next to these.
+  run: at and before receipts, ends of corrections, changes of a period, and the ticks of both clocks next to these;
+- copies by Q and B: the same over 1,000,000·Q((m + 1)·F) + B, which is no bound and less than X.
 
-Every fifth file goes to the program too: it has to refuse what is refused here, and else to write the same delays, bounds, numbers and
+About every second file goes to the program too: it has to refuse what is refused here, and else to write the same delays, bounds, numbers and
 edges. A bound that is passed, or another answer of the program, ends the search with status 1. The file of each greatest part is kept.
 
 lock_in.py [PROGRAM [FILES [SEED [FOLDER]]]]: the program of crates/dc_cli/out, 12,000 files, seed 1 and a new folder where they are not
@@ -296,13 +297,13 @@ class Search:
         self.program, self.draw = program, random.Random(seed)
         self.files = self.refused = self.compared = self.tried = 0
         self.wrong = []
-        # By the name of a part: for each kind the best files, as (part, its two numbers, file).
+        # By the name of a part: for each kind the best files, as (part, bound, size, file).
         self.best = {name: {kind: [] for kind in KINDS} for name in NAMES}
 
     def file(self, kind):
         """A file of a kind; None where its numbers leave none to be made."""
         if kind == "changed":
-            found = self.best[self.draw.choice(NAMES + ["copies"])]
+            found = self.best[self.draw.choice(NAMES)]
             return changed(self.draw, self.draw.choice([file for kept in found.values() for *_, file in kept]))
         try:
             return MADE[kind](self.draw)
@@ -321,7 +322,7 @@ class Search:
             run = Run(file)
         except Refused:
             run = None
-        if self.draw.randrange(5) == 0:
+        if self.draw.randrange(2) == 0:
             self.compared += 1
             if answer(self.program, json.dumps(file).encode()) != told(run):
                 self.wrong.append(("another answer", file))
@@ -334,10 +335,10 @@ class Search:
     def keep(self, kind, file, run):
         for name, (size, bound) in run.greatest.items():
             kept = self.best[name][kind]
-            kept.append((size / bound, f"{size} of {bound}", file))
-            kept.sort(key=lambda it: -it[0])
+            kept.append((size / bound if bound else 0, bound, size, file))
+            kept.sort(key=lambda it: it[:2], reverse=True)
             del kept[4:]
-            if size > bound:
+            if size > bound and name != NAMES[-1]:
                 self.wrong.append((f"{name}: {size} of {bound}", file))
 
 
@@ -370,11 +371,11 @@ def main():
     for name in NAMES:
         for kind in KINDS:
             found = [it for part in parts for it in part.best[name][kind]]
-            share, numbers, file = max(found, key=lambda it: it[0], default=(0, "no file", None))
+            share, bound, size, file = max(found, key=lambda it: it[:2], default=(0, 0, 0, None))
             path = os.path.join(folder, f"{name} {kind}.json".replace(" ", "_"))
             with open(path, "w") as sink:
                 json.dump(file, sink)
-            print(f"{name}, {kind}: {share:.4f} ({numbers}), {path}")
+            print(f"{name}, {kind}: {share:.4f} ({size} of {bound}), {path}")
     for what, file in [it for part in parts for it in part.wrong]:
         print(f"wrong, {what}: {json.dumps(file)}")
     sys.exit(1 if any(part.wrong for part in parts) else 0)

@@ -14,8 +14,8 @@ def signed(number, bits):
     return number - 2**bits if number >= 2 ** (bits - 1) else number
 
 
-# What is looked for in a run (lock_in.py).
-NAMES = ["any difference", "above K", "last above", "copies"]
+# What is looked for in a run (lock_in.py). The last is no bound: it may be passed.
+NAMES = ["any difference", "above K", "last above", "copies", "copies by Q and B"]
 
 
 class Refused(Exception):
@@ -425,3 +425,4 @@ class Run:
         clock, reference = self.unit[p], self.unit[self.reference]
         apart = signed(clock.at(t) - reference.at(t), min(clock.bits, reference.bits))
         self.take("copies", 1_000_000 * abs(apart), self.far[p])
+        self.take("copies by Q and B", 1_000_000 * abs(apart), 1_000_000 * self.drifted + self.bound[p])
