@@ -12,8 +12,8 @@ whose receive times all err to one side ("chain"); and changes of the best files
   run: at and before receipts, ends of corrections, changes of a period, and the ticks of both clocks next to these;
 - copies by Q and B: the same over 1,000,000·Q((m + 1)·F) + B, which is no bound and less than X.
 
-About every second file goes to the program too: it has to refuse what is refused here, and else to write the same delays, bounds, numbers and
-edges. A bound that is passed, or another answer of the program, ends the search with status 1. The file of each greatest part is kept.
+About every second file goes to the program too: it has to refuse what is refused here, and else to write the same delays, bounds, numbers
+and edges. A bound that is passed, or another answer of the program, ends the search with status 1. The file of each greatest part is kept.
 
 lock_in.py [PROGRAM [FILES [SEED [FOLDER]]]]: the program of crates/dc_cli/out, 12,000 files, seed 1 and a new folder where they are not
 given. The same seed gives the same files.
