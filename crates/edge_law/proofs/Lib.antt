@@ -1,1 +1,2 @@
 mod ArmingFrame
+pub mod ArmingDatagrams
