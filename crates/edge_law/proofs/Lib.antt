@@ -1,2 +1,3 @@
 mod ArmingFrame
 pub mod ArmingDatagrams
+pub mod ArmingVisit
