@@ -1,3 +1,4 @@
 mod ArmingFrame
 pub mod ArmingDatagrams
 pub mod ArmingVisit
+pub mod ArmingStep
