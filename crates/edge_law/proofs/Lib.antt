@@ -4,3 +4,4 @@ pub mod ArmingVisit
 pub mod ArmingStep
 pub mod ArmingProgress
 pub mod ArmingWalk
+pub mod ArmedRuns
