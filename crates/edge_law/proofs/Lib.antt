@@ -1,7 +1,7 @@
-mod ArmingFrame
-pub mod ArmingDatagrams
-pub mod ArmingVisit
-pub mod ArmingStep
-pub mod ArmingProgress
-pub mod ArmingWalk
-pub mod ArmedRuns
+mod ArmingDatagrams
+mod ArmingVisit
+mod ArmingStep
+mod ArmingProgress
+mod ArmingWalk
+mod ArmedRuns
+pub mod Exported
