@@ -19,8 +19,10 @@ ghost use Rattle.segment_start.specs.Start.{started_segment};
 pub fn units_are_armed()
     ensures ran { (s : SegmentValue) (first before run : RunEnd) (p : ℕ) (v : Slave) → IsCommissioned s first → settled s ≡ Some before
         → ran s ≡ Some run → run.answer ≡ Ok tt → slice_get run.state.slaves p ≡ Some v → has_clock (kind_at s p) ≡ true
-        → IsArmedSince s first p (start_at (master_of s) (words_after s before)) (history_from (started_segment s) run.exchanges p) v }
+        → IsArmedSince s first p (start_at (master_of s) (words_after s before))
+        (history_from (started_segment s) run.exchanges p) v }
     ensures whole { (s : SegmentValue) (first before run : RunEnd) (p : ℕ) (v : Slave) → IsCommissioned s first → settled s ≡ Some before
         → run_of s ≡ Some run → run.answer ≡ Ok tt → slice_get run.state.slaves p ≡ Some v → has_clock (kind_at s p) ≡ true
-        → IsArmedSince s first p (start_at (master_of s) (words_after s before)) (history_from (started_segment s) run.exchanges p) v }
+        → IsArmedSince s first p (start_at (master_of s) (words_after s before))
+        (history_from (started_segment s) run.exchanges p) v }
 {}
