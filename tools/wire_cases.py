@@ -256,8 +256,8 @@ def row(name, kind, parent=None, port=None, cable=50_000, tp=310, tf=300, start=
     return told
 
 
-def segment(rows, losses=(), ppm=0, cycles=3):
-    told = {"version": 2, "ppm": ppm, "frame_ns": 1_000_000, "speed": 4096, "loss_run": 1, "epoch_ns": 0, "cycle_ns": 1_000_000,
+def segment(rows, losses=(), ppm=0, cycles=3, loss_run=1, epoch=0):
+    told = {"version": 2, "ppm": ppm, "frame_ns": 1_000_000, "speed": 4096, "loss_run": loss_run, "epoch_ns": epoch, "cycle_ns": 1_000_000,
             "cycles": cycles, "slaves": rows, "losses": [{"phase": p, "number": n, "after": a} for p, n, a in losses]}
     return "segment " + json.dumps(told, separators=(",", ":"))
 
@@ -335,6 +335,40 @@ def by_hand():
     yield "edges 0"
 
 
+def word(number, size):
+    return number.to_bytes(size, "little").hex()
+
+
+def slow_clock():
+    """The whole run of a clock that is 100 ppm slow behind one that is right, frame by frame."""
+    epoch = 800_000_000_000_000_000
+    yield "# a slow clock: the first drift frame comes five periods after the latch and differs by -500, each later one by -100, none above 8 by more than 820"
+    yield segment([row("A", "c64", cable=20_000), row("B", "c64", "A", 1, phase=10_001_000, period=10_001_000)], ppm=100, cycles=2, loss_run=3, epoch=epoch)
+    yield "send 1000000 BRD:0000:0000:00"
+    for p in range(2):
+        at = f"{0x1001 + p:04x}"
+        yield f"send 1000000 APWR:{-p % 65536:04x}:0010:{word(0x1001 + p, 2)},FPRD:{at}:0008:0000,FPRD:{at}:0110:0000,FPRD:{at}:0910:00000000"
+    yield f"send 1000000 BWR:0000:0930:{word(4096, 2)}"
+    yield "send 1000000 BWR:0000:0900:00000000"
+    for p in range(2):
+        at = f"{0x1001 + p:04x}"
+        yield f"send 1000000 FPRD:{at}:0900:{word(0, 16)},FPRD:{at}:0918:{word(0, 8)}"
+    for at, offset, delay in (("1001", epoch - 5_000_020, 0), ("1002", epoch + 360 - 4_999_880, 360)):
+        yield f"send 1000000 FPWR:{at}:0920:{word(offset, 8)},FPWR:{at}:0928:{word(delay, 4)}"
+    start = word(epoch + 28_000_000, 8)
+    drift = "FRMW:1001:0910:00000000"
+    for number in range(1, 33):
+        arms = {13: "1001", 14: "1002"}.get(number)
+        plan = f",FPWR:{arms}:0981:00,FPWR:{arms}:09a0:{word(1_000_000, 4)}{word(0, 4)},FPWR:{arms}:0990:{start},FPWR:{arms}:0981:03" if arms else ""
+        yield f"send 1000000 {drift}{plan}"
+        yield "read 1 092c 4"
+    yield "read 0 092c 4"
+    yield "finish 42000000000000"
+    yield "edges 0"
+    yield "edges 1"
+    yield "sent all"
+
+
 def at_random(r):
     n = r.randint(1, 6)
     rows, free = [], []
@@ -395,6 +429,7 @@ def datagram(r, n):
 
 def cases():
     yield from by_hand()
+    yield from slow_clock()
     r = random.Random(4)
     yield "# segments and frames at random"
     for _ in range(40):

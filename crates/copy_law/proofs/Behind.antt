@@ -1,7 +1,7 @@
 -- Where a drift frame of a run stands: behind a commissioning that ended with Ok, wanted by a call, at its number.
 use Rattle.std.proofs.Common.{◌≡◌, ◌⊎◌, ℕ, ◌+◌, ◌<◌, ◌≤◌, List, [], ◌∷◌, ◌++◌, length, length-append, Some, Ok, inl, inr, refl, sym, ap, ap₂, subst, ◌∙◌, append_assoc, arith}
 use Rattle.std.proofs.lemmas.List.{append_cancel_left}
-use Rattle.copy_law.specs.Receipts.{IsDriftFrame}
+use Rattle.copy_law.specs.DriftFrames.{IsDriftFrame}
 use Rattle.ecat_link.specs.Exchanges.{Exchange, Runs}
 use Rattle.ecat_link.specs.Serves.{Send}
 use Rattle.frame_pass.specs.SegmentState.{SegmentState, phase_of, segment_step}

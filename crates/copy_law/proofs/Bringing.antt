@@ -3,7 +3,8 @@ use Rattle.std.proofs.Common.{◌≡◌, ◌≢◌, ℕ, ◌+◌, ◌%◌, ◌^�
 use Rattle.std.specs.Prelude.{◌&&◌, IfSome, if◌then◌else◌, is_some, nat_lt, not, slice_get}
 use Rattle.std.proofs.lemmas.Bool.{eq-eqb, eqb-true}
 use Rattle.std.proofs.lemmas.Bool.Decides.{nat_tests}
-use Rattle.copy_law.specs.Receipts.{IsDriftFrame, IsReference, brought, receipt, receives, sent_at, time_of}
+use Rattle.copy_law.specs.DriftFrames.{IsDriftFrame, brought, sent_at}
+use Rattle.copy_law.specs.Receipts.{IsReference, receipt, receives, time_of}
 use Rattle.lost_step.specs.LostStep.{comes_to}
 use Rattle.copy_law.proofs.AtSlaves.{clock_receives, other_rests, received_at, reference_rests, word_at}
 use Rattle.copy_law.proofs.First.{behind_reference, reference_clock}

@@ -10,7 +10,8 @@ use Rattle.cable_tree.specs.PathSums.{arrive}
 use Rattle.cable_tree.specs.Positions.{position_of}
 use Rattle.copy_law.specs.Drifting.{IsBehind}
 use Rattle.copy_law.specs.History.{brought_to, clock_of, copy_of_run, history_from, offset_of}
-use Rattle.copy_law.specs.Receipts.{IsDriftFrame, IsReference, receipt, receives, sent_at}
+use Rattle.copy_law.specs.DriftFrames.{IsDriftFrame, sent_at}
+use Rattle.copy_law.specs.Receipts.{IsReference, receipt, receives}
 use Rattle.copy_law.specs.SinceLatch.{latch_arrival}
 use Rattle.copy_law.specs.WholeTimes.{reference_time, whole_copy}
 use Rattle.copy_law.proofs.Bringing.{frame_brings}

@@ -100,7 +100,7 @@ module _ (s : SegmentValue) (legal : IsLegal s) (r : ℕ) (reference : IsReferen
       order_pair (tree_rows s.rows) legal.tree.tree legal.tree.slaves r p (behind_reference s legal r reference p low is other) (omega (arith, many, low))
 
   -- D
-  wire_delay_is : arrive (tree_rows s.rows) (row_at s r) + wire_delay_at s (row_at s p) ≡ arrive (tree_rows s.rows) (row_at s p)
+  pub wire_delay_is : arrive (tree_rows s.rows) (row_at s r) + wire_delay_at s (row_at s p) ≡ arrive (tree_rows s.rows) (row_at s p)
   unfolding wire_delay_at
   wire_delay_is =
       let later = arrives_later in
@@ -137,7 +137,7 @@ delay_is_near s legal first was ok p low is =
     by (Some d) e = commissioned_near s legal first was ok p d low (ap (λ (ds : List (Option ℕ)). slice_index_or ds p None) (kept_delays s legal first was ok) ∙ e)
 
 -- X is at most a quarter of a frame period
-small_bound : (s : SegmentValue) (legal : IsLegal s) (q : ℕ) → q < length s.rows → 4 * copy_bound_at s q ≤ period_fs s.head.frame_ns
+pub small_bound : (s : SegmentValue) (legal : IsLegal s) (q : ℕ) → q < length s.rows → 4 * copy_bound_at s q ≤ period_fs s.head.frame_ns
 unfolding copy_bound_at
 small_bound s legal q low = by (nat_eq q (reference_row_of s))
   where
@@ -146,7 +146,7 @@ small_bound s legal q low = by (nat_eq q (reference_row_of s))
     by false = small_copy_bound s q legal low
 
 -- The difference of two words of clocks.
-half_range : (j k : ClockKind) → (0 < min (width j) (width k)) × (2 ^ 31 ≤ 2 ^ (min (width j) (width k) - 1))
+pub half_range : (j k : ClockKind) → (0 < min (width j) (width k)) × (2 ^ 31 ≤ 2 ^ (min (width j) (width k) - 1))
 unfolding width
 half_range kind.C64 kind.C64 = (omega arith, omega arith)
 half_range kind.C64 kind.None = (omega arith, omega arith)
@@ -193,7 +193,7 @@ decided p r =
     ]
 
 -- the reference by the row that the bounds take
-in_rows : (s : SegmentValue) → IsLegal s → IsReference s (position_of (tree_rows s.rows) (reference_row_of s))
+pub in_rows : (s : SegmentValue) → IsLegal s → IsReference s (position_of (tree_rows s.rows) (reference_row_of s))
 in_rows s legal =
     let found = (legal_reference s legal).1 in
     record {
@@ -203,7 +203,7 @@ in_rows s legal =
     }
 
 -- How many frames there are.
-further : (s : SegmentValue) (before run : RunEnd) → settled s ≡ Some before → ran s ≡ Some run → length before.exchanges ≤ length run.exchanges
+pub further : (s : SegmentValue) (before run : RunEnd) → settled s ≡ Some before → ran s ≡ Some run → length before.exchanges ≤ length run.exchanges
 unfolding ran armed
 further s before run is there =
     let f = followed s (Run (frames_given s)) (armed s) run there in
@@ -517,7 +517,7 @@ module _ (s : SegmentValue) (first before run : RunEnd) (it : IsCommissioned s f
       subst (λ (z : ℤ). 1000000 * unsigned_abs z ≤ copy_bound_at s (row_at s p)) (sym words_are) (apart_few mine theirs (copy_bound_at s (row_at s p)) above below)
 
 -- settling that ended with Ok comes after a commissioning that did
-commissioned_first : (s : SegmentValue) (before : RunEnd) → IsLegal s → settled s ≡ Some before → before.answer ≡ Ok tt → (first : RunEnd) × IsCommissioned s first
+pub commissioned_first : (s : SegmentValue) (before : RunEnd) → IsLegal s → settled s ≡ Some before → before.answer ≡ Ok tt → (first : RunEnd) × IsCommissioned s first
 unfolding settled
 commissioned_first s before legal is ok = let f = followed s Settle (commissioned s) before is in (f.0, record { legal = legal; is = f.1; ok = by f.0 f.2 })
   where

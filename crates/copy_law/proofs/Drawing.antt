@@ -9,7 +9,8 @@ use Rattle.std.proofs.lemmas.List.Elements.{All-weaker}
 use Rattle.copy_law.specs.Drawn.{AreMissed, IsDrawing, IsDrawnBy, IsUndrawn, arrives_at}
 use Rattle.copy_law.specs.Drifting.{IsBehind, StandsBehind}
 use Rattle.copy_law.specs.History.{brought_to, clock_of, history_from}
-use Rattle.copy_law.specs.Receipts.{IsDriftFrame, IsReference, receives, sent_at}
+use Rattle.copy_law.specs.DriftFrames.{IsDriftFrame, sent_at}
+use Rattle.copy_law.specs.Receipts.{IsReference, receives}
 use Rattle.copy_law.specs.SinceLatch.{latch_arrival}
 use Rattle.copy_law.specs.Together.{reach_of_segment}
 use Rattle.copy_law.specs.Untouched.{ticks_to_correction}

@@ -3,7 +3,7 @@ use Rattle.std.proofs.Common.{◌≡◌, ℕ, zero, suc, ◌+◌, ◌<◌, List,
 use Rattle.std.specs.Prelude.{IsSome}
 use Rattle.std.proofs.lemmas.List.{append-nil, append_cancel_left}
 use Rattle.copy_law.specs.Drifting.{IsBehind}
-use Rattle.copy_law.specs.Receipts.{IsDriftFrame}
+use Rattle.copy_law.specs.DriftFrames.{IsDriftFrame}
 use Rattle.copy_law.proofs.Behind.{commissioned_ok}
 use Rattle.ecat_link.specs.Exchanges.{Exchange, Runs, StepOf}
 use Rattle.ecat_link.proofs.Exported.{runs_then}
@@ -186,9 +186,6 @@ module _ (s : SegmentValue) (k : ℕ) (t u : SegmentState) (b : IsBehind s k t) 
 
 -- a drift frame is one exchange more
 module _ (s : SegmentValue) (legal : IsLegal s) (k : ℕ) (t : SegmentState) (e : Exchange) (f : IsDriftFrame s (k + 1) t e) where
-  found_is : (found_behind s legal k t e f).before ≡ f.before
-  found_is = refl
-
   left_is : (left_behind s legal k t e f).before ≡ f.before ++ e ∷ []
   unfolding left_behind
   left_is = refl
@@ -197,7 +194,7 @@ module _ (s : SegmentValue) (legal : IsLegal s) (k : ℕ) (t : SegmentState) (e 
   one_before b c =
       let u = (segment_step t e.wait_ns e.sent).0 in
       same_before s (k + 1) u u c (left_behind s legal k t e f) ∙ left_is
-      ∙ ap (λ (es : List Exchange). es ++ e ∷ []) (sym found_is ∙ same_before s k t t (found_behind s legal k t e f) b)
+      ∙ ap (λ (es : List Exchange). es ++ e ∷ []) (same_before s k t t (found_behind s legal k t e f) b)
 
 -- the last of them, and the state that it found
 pub last_frame : (s : SegmentValue) (k : ℕ) (u : SegmentState) → IsBehind s (k + 1) u

@@ -26,9 +26,19 @@ pub use Rattle.copy_law.proofs.Latched.{latched_within}
 -- The local time without wrap, where events are resets alone, or are none yet.
 pub use Rattle.copy_law.proofs.Whole.{whole_not_yet, order_later, whole_rests}
 -- What commissioning brings a clock, and what each drift frame adds to its history.
-pub use Rattle.copy_law.proofs.Histories.{first_resets, history_induction}
+pub use Rattle.copy_law.proofs.Histories.{first_resets, history_induction, frame_induction}
 -- The local copy of a clock as a whole number, behind drift frames and in the whole run, and that of the reference.
 pub use Rattle.copy_law.proofs.Copies.{the_reference, told_reference, IsSplit, split_behind, ordered, time_at_latch, time_rises, copy_behind}
 pub use Rattle.copy_law.proofs.Copies.{reference_history, reference_counts, reference_behind, copy_then, reference_then}
 -- So is the system time that a slave has behind drift frames.
 pub use Rattle.copy_law.proofs.SystemTimes.{time_behind}
+-- What a drift frame brings a clock is the whole difference of its time and the reference's.
+pub use Rattle.copy_law.proofs.Receiving.{history, time_there, reference_whole, brings_none, brings_one}
+-- A clock is drawn by the last frame that came to it.
+pub use Rattle.copy_law.proofs.Drawing.{silent_few, ticks_over, drawn_on, drawing}
+-- The history of a clock in a run, cut at an instant.
+pub use Rattle.copy_law.proofs.Passing.{IsCut, cut_at}
+-- No late difference is above the drift of loss_run + 1 periods.
+pub use Rattle.copy_law.proofs.Locked.{locked}
+-- The copies of a run are near each other, as whole numbers and as words.
+pub use Rattle.copy_law.proofs.CopiesNear.{further, wire_delay_is, small_bound, half_range, commissioned_first, in_rows, whole_copies_near, copies_stay}

@@ -5,7 +5,7 @@ use Rattle.std.specs.List.{AllByRecursion}
 use Rattle.std.proofs.lemmas.List.{append-nil}
 use Rattle.copy_law.specs.Drifting.{IsBehind}
 use Rattle.copy_law.specs.History.{brought_to, history_from}
-use Rattle.copy_law.specs.Receipts.{IsDriftFrame}
+use Rattle.copy_law.specs.DriftFrames.{IsDriftFrame}
 use Rattle.copy_law.proofs.Drifting.{behind_induction, found_behind, none_before, one_before}
 use Rattle.copy_law.proofs.History.{history_one, history_then}
 use Rattle.copy_law.proofs.Standing.{file_first, file_step}

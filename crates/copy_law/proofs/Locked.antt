@@ -6,7 +6,8 @@ use Rattle.std.proofs.lemmas.Bool.{cases_lt, eq-eqb}
 use Rattle.cable_tree.specs.Positions.{position_of}
 use Rattle.copy_law.specs.Drawn.{IsDrawing, IsDrawnBy, arrives_at}
 use Rattle.copy_law.specs.History.{brought_to, history_from}
-use Rattle.copy_law.specs.Receipts.{IsDriftFrame, IsReference, brought, receipt as receipt_of, receives, sent_at}
+use Rattle.copy_law.specs.DriftFrames.{IsDriftFrame, brought, sent_at}
+use Rattle.copy_law.specs.Receipts.{IsReference, receipt as receipt_of, receives}
 use Rattle.copy_law.specs.Together.{AreLocked, IsWithinLock, reach_of_segment}
 use Rattle.copy_law.proofs.Bringing.{frame_brings}
 use Rattle.copy_law.proofs.Copies.{the_reference}

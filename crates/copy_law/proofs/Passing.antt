@@ -8,7 +8,8 @@ use Rattle.std.proofs.lemmas.List.{append-nil}
 use Rattle.copy_law.specs.Drawn.{IsDrawing, arrives_at}
 use Rattle.copy_law.specs.Drifting.{IsBehind}
 use Rattle.copy_law.specs.History.{brought_to, history_from}
-use Rattle.copy_law.specs.Receipts.{IsDriftFrame, IsReference}
+use Rattle.copy_law.specs.DriftFrames.{IsDriftFrame}
+use Rattle.copy_law.specs.Receipts.{IsReference}
 use Rattle.copy_law.proofs.Behind.{commissioned_ok}
 use Rattle.copy_law.proofs.Copies.{brings_then}
 use Rattle.copy_law.proofs.Drawing.{drawn_on}

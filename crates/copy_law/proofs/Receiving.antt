@@ -5,7 +5,8 @@ use Rattle.std.proofs.lemmas.List.{append-nil}
 use Rattle.copy_law.specs.Drawn.{arrives_at}
 use Rattle.copy_law.specs.Drifting.{IsBehind, StandsBehind}
 use Rattle.copy_law.specs.History.{brought_to, clock_of, history_from}
-use Rattle.copy_law.specs.Receipts.{IsDriftFrame, IsReference, arrival_time, receipt as receipt_of, receives, sent_at, time_of}
+use Rattle.copy_law.specs.DriftFrames.{IsDriftFrame, sent_at}
+use Rattle.copy_law.specs.Receipts.{IsReference, arrival_time, receipt as receipt_of, receives, time_of}
 use Rattle.copy_law.specs.SinceLatch.{latch_arrival}
 use Rattle.copy_law.specs.WholeTimes.{reference_time, whole_time}
 use Rattle.copy_law.proofs.Behind.{commissioned_ok}

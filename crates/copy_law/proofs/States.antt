@@ -6,7 +6,8 @@ use Rattle.std.specs.List.{AllByRecursion}
 use Rattle.std.proofs.lemmas.Option.{slice_get-map}
 use Rattle.cable_tree.specs.Positions.{position_of}
 use Rattle.dc_bounds.specs.LockNumbers.{period_fs}
-use Rattle.copy_law.specs.Receipts.{IsDriftFrame, IsReference, sent_at}
+use Rattle.copy_law.specs.DriftFrames.{IsDriftFrame, sent_at}
+use Rattle.copy_law.specs.Receipts.{IsReference}
 use Rattle.copy_law.proofs.Behind.{IsWanted, commissioned_ok, drift_number, is_wanted, phase_is}
 use Rattle.copy_law.proofs.OnTheWay.{IsDrifting, drifting_step}
 use Rattle.ecat_frame.specs.FrameGrammar.{DatagramValue, FrameValue}

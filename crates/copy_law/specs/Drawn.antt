@@ -3,7 +3,8 @@
 use Rattle.std.specs.Prelude.{◌≡◌, ◌⊎◌, ℕ, ◌+◌, ◌<◌, ◌≤◌, unsigned_abs, ℤ, pos, ◌+ℤ◌, false, List, [], ◌∷◌, ◌++◌}
 use Rattle.cable_tree.specs.PathSums.{arrive}
 use Rattle.copy_law.specs.History.{clock_of}
-use Rattle.copy_law.specs.Receipts.{receives, sent_at}
+use Rattle.copy_law.specs.DriftFrames.{sent_at}
+use Rattle.copy_law.specs.Receipts.{receives}
 use Rattle.copy_law.specs.Together.{reach_of_segment}
 use Rattle.copy_law.specs.WholeTimes.{reference_time, whole_time}
 use Rattle.dc_bounds.specs.Drawing.{IsDrawn}

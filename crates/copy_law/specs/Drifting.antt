@@ -1,7 +1,7 @@
 -- Where the segment of a file is after commissioning, drift frame by drift frame.
 use Rattle.std.specs.Prelude.{◌≡◌, ℕ, ◌+◌, List, ◌++◌, length, Some, Ok}
 use Rattle.copy_law.specs.HeldOffsets.{AreSet}
-use Rattle.copy_law.specs.Receipts.{sent_at}
+use Rattle.copy_law.specs.DriftFrames.{sent_at}
 use Rattle.copy_law.specs.Speeds.{AllCorrect}
 use Rattle.delay_law.specs.OfFile.{IsOfFile}
 use Rattle.ecat_link.specs.Exchanges.{Exchange, Runs}

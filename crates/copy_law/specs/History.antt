@@ -1,14 +1,13 @@
 -- What the clock of the slave at a position goes through in a run, and what its local copy of the system time is at any true time.
-use Rattle.std.specs.Prelude.{ℕ, List, [], ◌∷◌, ◌++◌, Option, Some, None, slice_get}
+use Rattle.std.specs.Prelude.{ℕ, ◌+◌, ◌%◌, ◌^◌, List, [], ◌∷◌, ◌++◌, Option, Some, None, slice_get}
 use Rattle.std.specs.Option.{option_map_or}
-use Rattle.copy_law.specs.Receipts.{brought}
+use Rattle.copy_law.specs.DriftFrames.{brought}
 use Rattle.delay_law.specs.Resting.{row_there}
 use Rattle.ecat_link.specs.Exchanges.{Exchange}
-use Rattle.frame_pass.specs.Copies.{copy_at}
 use Rattle.frame_pass.specs.SegmentState.{SegmentState, segment_step}
 use Rattle.frame_pass.specs.SlaveState.{Slave, offset, width}
 use Rattle.honest_slaves.specs.FileSlaves.{kind_at}
-use Rattle.local_clock.specs.Reading.{Clock, Happening, started}
+use Rattle.local_clock.specs.Reading.{Clock, Happening, reading_at, started}
 use Rattle.run_of_file.specs.RunOfFile.{RunEnd}
 use Rattle.segment_file.specs.Segment.{RowValue, SegmentValue, oscillator}
 use Rattle.segment_start.specs.Start.{first_rate, started_segment}
@@ -35,4 +34,5 @@ offset_of t p = option_map_or (λ v. offset v.registers) (slice_get t.slaves p) 
 -- the clock in the whole run, and the offset that it holds at the end.
 abbrev pub copy_of_run : SegmentValue → RunEnd → ℕ → ℕ → ℕ
 copy_of_run s run p t =
-    copy_at (width (kind_at s p)) (clock_of (row_there s p)) (history_from (started_segment s) run.exchanges p) (offset_of run.state p) t
+    let w = width (kind_at s p) in
+    (reading_at w (clock_of (row_there s p)) (history_from (started_segment s) run.exchanges p) t + offset_of run.state p) % 2 ^ w

@@ -1,4 +1,5 @@
 pub mod Untouched
+pub mod DriftFrames
 pub mod Receipts
 pub mod HeldOffsets
 pub mod SinceLatch

@@ -6,7 +6,7 @@ use Rattle.cable_tree.specs.Positions.{position_of}
 use Rattle.dc_bounds.specs.LockNumbers.{period_fs, reach_fs, silence_fs}
 use Rattle.dc_bounds.specs.TickBounds.{jump}
 use Rattle.copy_law.specs.History.{copy_of_run}
-use Rattle.copy_law.specs.Receipts.{IsDriftFrame, brought}
+use Rattle.copy_law.specs.DriftFrames.{IsDriftFrame, brought}
 use Rattle.ecat_link.specs.Exchanges.{Exchange}
 use Rattle.esc_regs.specs.Kinds.{has_clock}
 use Rattle.frame_pass.specs.SegmentState.{SegmentState}

@@ -36,8 +36,13 @@
 //! arrived at it, and its delay; of the reference that is the epoch and 10 ns for each tick
 //! ([`laws::copies_are_whole`]).
 //!
-//! That the copies of the clocks then stay near is not proved yet; these laws are what a proof of it begins with. A law
-//! on the edges of a run goes into a crate above this one, which is not there yet.
+//! **How near the clocks come, and stay.** The time of a clock is at any moment that of the reference at the last receipt, 10 ns
+//! for each of its own ticks since, and what is left of the difference that it then received; and each difference is smaller than
+//! the one before by what was corrected meanwhile, less what has come up anew ([`laws::clocks_are_drawn_in_runs`]). So after K
+//! compensation frames every difference is at most Q of `loss_run` + 1 frame periods ([`laws::differences_are_locked`]), and from the end
+//! of settling on each local copy is within X of that of the reference ([`laws::copies_are_near`]).
+//!
+//! A law on the edges of a run goes into a crate above this one, which is not there yet.
 #![tactic(auto)]
 
 pub mod laws;

@@ -2,6 +2,7 @@
 use Rattle.std.proofs.Common.{◌≡◌, ◌∙◌, ℕ, ◌≤◌, Option, Some, None, Ok, Err, ap, refl, sym, subst}
 use Rattle.std.specs.Prelude.{false}
 use Rattle.bench_report.proofs.Exported.{commissioned_delays, run_delays}
+use Rattle.copy_law.proofs.Exported.{copies_stay, locked}
 use Rattle.dc_bench.specs.BenchState.{BenchState}
 use Rattle.delay_law.specs.NearDelays.{AreNear}
 use Rattle.delay_law.proofs.Exported.{commissioned_near, later_near, whole_near}
@@ -23,7 +24,7 @@ use Rattle.run_counts.specs.Answers.{answer_for}
 use Rattle.segment_bench.specs.BenchRun.{HasRun}
 use Rattle.segment_file.specs.Legal.{IsLegal}
 use Rattle.segment_file.specs.Segment.{SegmentValue}
-use Rattle.dc_top.specs.Runs.{HasMade, goes_on}
+use Rattle.dc_top.specs.Runs.{HasMade, Together, goes_on}
 use Rattle.dc_top.specs.Transmissions.{Sends, SendsRun}
 use Rattle.dc_top.specs.declared.report.Report.{Report}
 use Rattle.dc_top.specs.declared.report.Report.TheVariants.{Delays, Run, Drill}
@@ -114,6 +115,13 @@ pub near_if_later : (r : Report) (s : SegmentValue) (b : BenchState) (step : Ste
 near_if_later Delays s b step legal run lost none = absurd (let x = sym lost ∙ none in cc)
 near_if_later (Run edges) s b step legal run lost none = delays_near_later s b (Refused (LostStep step)) legal run none
 near_if_later Drill s b step legal run lost none = delays_near_later s b (Refused (LostStep step)) legal run none
+
+-- ---- its clocks
+
+pub come_together : (r : Report) (s : SegmentValue) → IsLegal s → Together r s
+come_together Delays s legal = tt
+come_together (Run edges) s legal = record { lock_in = locked s legal; copies = copies_stay s legal }
+come_together Drill s legal = record { lock_in = locked s legal; copies = copies_stay s legal }
 
 -- ---- the frames that it has sent
 

@@ -17,7 +17,7 @@ use Rattle.dc_top.specs.declared.outcome.Outcome.TheVariants.{BadText, BadSegmen
 use Rattle.dc_top.specs.declared.report.Report.{Report}
 use Rattle.dc_top.specs.declared.seg_fault.SegFault.{SegFault}
 use Rattle.dc_top.specs.declared.seg_fault.SegFault.TheVariants.{Shape, Twice, Tree, Rate, NoReference, Unmeasurable, TooSlow, NoLock, Lead, LossRun, TooMuch}
-use Rattle.dc_top.proofs.Behind.{delays_near, delays_there, frames_few, frames_told, near_if_later, none_lost, step_lost}
+use Rattle.dc_top.proofs.Behind.{come_together, delays_near, delays_there, frames_few, frames_told, near_if_later, none_lost, step_lost}
 
 no_memory : (fault : SegFault) → error_of fault ≡ error.NoMemory → ⊥
 no_memory (Shape path) e = cc
@@ -49,6 +49,7 @@ reported r s b legal run = record {
   losses = none_lost r s b legal run;
   delays = delays_there r s b legal run;
   near = delays_near r s b legal run;
+  together = come_together r s legal;
   sends = frames_told r s b legal run;
   few = frames_few r s b (Ok tt) legal run;
   written = refl;
@@ -58,4 +59,4 @@ reported r s b legal run = record {
 pub told_lost : (r : Report) (s : SegmentValue) (b : BenchState) (step : Step) → IsLegal s → HasMade r s b (Err (Refused (Lost step))) → IsLostBy r s step b
 told_lost r s b step legal run =
     let lost = step_lost r s b step legal run in
-    record { run = run; losses = lost; near = near_if_later r s b step legal run lost; few = frames_few r s b (Err (Refused (Lost step))) legal run }
+    record { run = run; losses = lost; near = near_if_later r s b step legal run lost; together = come_together r s legal; few = frames_few r s b (Err (Refused (Lost step))) legal run }

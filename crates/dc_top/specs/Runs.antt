@@ -1,5 +1,6 @@
 -- The commands that drive a master over a wire: how far the run of a segment goes, and what is written of it.
-use Rattle.std.specs.Prelude.{◌≡◌, ◌≤◌, ℕ, Bool, true, false, List, Option, Some, None, Ok, Err}
+use Rattle.std.specs.Prelude.{◌≡◌, ◌≤◌, ⊤, ℕ, Bool, true, false, List, Option, Some, None, Ok, Err}
+use Rattle.copy_law.specs.Together.{AreCopiesNear, AreLocked}
 use Rattle.dc_bench.specs.BenchState.{BenchState}
 use Rattle.delay_law.specs.NearDelays.{AreNear}
 use Rattle.edge_report.specs.Delays.{AreDelays}
@@ -35,13 +36,27 @@ text_of_report Delays s b = table_text s b
 text_of_report (Run edges) s b = report_text s b edges
 text_of_report Drill s b = drill_text s b
 
+-- The clocks of a whole run come together, and stay: every difference that a clock receives is within the lock numbers, and from the end of
+-- settling on its local copy is within X of that of the reference.
+pub record AreTogether (s : SegmentValue) : Type 0 where
+  pub lock_in : AreLocked s
+  pub copies : AreCopiesNear s
+
+-- commissioning alone sends no drift frames, and says nothing of it
+abbrev pub Together : Report → SegmentValue → Type 0
+Together Delays s = ⊤
+Together (Run edges) s = AreTogether s
+Together Drill s = AreTogether s
+
 -- A bench has made the run of this segment, of which no step loses its three tries, and the text is what is written of it. Each clock has
--- a delay, which lies within the delay bound of the true one; the frames that were sent are as many as the file tells, and few.
+-- a delay, which lies within the delay bound of the true one, and the clocks of a whole run come together; the frames that were sent are as
+-- many as the file tells, and few.
 pub record IsReportOf (report : Report) (segment : SegmentValue) (text : List ℕ) (bench : BenchState) : Type 0 where
   pub run : HasMade report segment bench (Ok tt)
   pub losses : lost_step_of segment (goes_on report) ≡ None
   pub delays : AreDelays segment bench.master.delays
   pub near : AreNear segment bench.master.delays
+  pub together : Together report segment
   pub sends : Sends report segment bench
   pub few : bench.master.sent ≤ 100000
   pub written : text ≡ text_of_report report segment bench
@@ -51,11 +66,12 @@ IsReport report s text None = ⊥
 IsReport report s text (Some b) = IsReportOf report s text b
 
 -- This is the first step of the run of this segment whose three tries are listed as lost, and the run ended there. The delays are
--- near where that is after commissioning, and the frames that were sent are few.
+-- near where that is after commissioning, the clocks come together as far as the run has come, and the frames that were sent are few.
 pub record IsLostBy (report : Report) (segment : SegmentValue) (step : Step) (bench : BenchState) : Type 0 where
   pub run : HasMade report segment bench (Err (Refused (Lost step)))
   pub losses : lost_step_of segment (goes_on report) ≡ Some step
   pub near : lost_step_of segment false ≡ None → AreNear segment bench.master.delays
+  pub together : Together report segment
   pub few : bench.master.sent ≤ 100000
 
 abbrev pub IsLost : Report → SegmentValue → Step → Option BenchState → Type 0
