@@ -1,0 +1,7 @@
+mod ArmingDatagrams
+mod ArmingVisit
+mod ArmingStep
+mod ArmingProgress
+mod ArmingWalk
+mod ArmedRuns
+pub mod Exported

@@ -1,0 +1,15 @@
+//! The SYNC units and the edges of a run. Laws about definitions; there is nothing to run here.
+//!
+//! They speak of the run of a legal file that is not refused, and are read in this order.
+//!
+//! **What arming leaves.** After settling a master arms the units of the clocks, one after another. Each frame of Arm
+//! carries the start, the cycle and the SYNC1 time of one clock (ESC data sheet, 0x0990, 0x09A0, 0x09A4), and then its
+//! activation (0x0981). It is sent again until it comes back, and a try that was lost may have armed the unit before.
+//! The try that came back armed it last: with the start that the master has computed, the shift, the cycle and the
+//! SYNC1 time of the file, and no edge kept. From its arrival on, the unit and the kept edges are those of the unit's
+//! calls, and the copies at their ticks are those of the clock's history ([`laws::units_are_armed`]).
+//!
+//! When these edges are is not proved yet; this law is what a proof of it begins with.
+#![tactic(auto)]
+
+pub mod laws;
