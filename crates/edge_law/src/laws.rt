@@ -1,0 +1,1 @@
+//! The units that arming leaves, and what they raise.
