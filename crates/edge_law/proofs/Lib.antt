@@ -1,1 +1,4 @@
 mod ArmingFrame
+mod ToldTimes
+mod SettledAt
+mod ToldStart
