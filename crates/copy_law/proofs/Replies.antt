@@ -1,6 +1,6 @@
 -- What a drift frame that comes back tells of the time of the reference.
-use Rattle.std.proofs.Common.{◌≡◌, ℕ, ◌+◌, ◌%◌, ◌^◌, List, [], ◌++◌, length, Option, Some, sym, ap, refl, ◌∙◌, arith}
-use Rattle.std.specs.Prelude.{slice_get, slice_index_or}
+use Rattle.std.proofs.Common.{◌≡◌, ℕ, ◌+◌, ◌%◌, ◌^◌, List, [], length, Option, Some, sym, ap, refl, ◌∙◌, arith}
+use Rattle.std.specs.Prelude.{slice_index_or}
 use Rattle.copy_law.specs.Drawn.{arrives_at}
 use Rattle.copy_law.specs.Receipts.{IsDriftFrame, IsReference, sent_at, time_of}
 use Rattle.copy_law.specs.WholeTimes.{reference_time}
@@ -14,7 +14,7 @@ use Rattle.ecat_frame.specs.declared.command.Command.TheVariants.{Nop}
 use Rattle.ecat_link.specs.Exchanges.{Exchange}
 use Rattle.esc_regs.specs.RegisterBytes.{number_at}
 use Rattle.frame_pass.specs.SegmentState.{SegmentState, leaves_at, segment_step}
-use Rattle.frame_pass.specs.SlaveState.{Slave, Timing, width}
+use Rattle.frame_pass.specs.SlaveState.{Timing, width}
 use Rattle.frame_pass.proofs.Exported.{sizes_of}
 use Rattle.honest_slaves.specs.FileSlaves.{kind_at, status_at}
 use Rattle.honest_slaves.proofs.Exported.{CameBack, came_back, had_before}

@@ -2,3 +2,4 @@ mod ArmingFrame
 mod ToldTimes
 mod SettledAt
 mod ToldStart
+mod StartStays

@@ -1,11 +1,11 @@
 -- Where settling ends: after its drift frames, which the whole run goes on from.
-use Rattle.std.proofs.Common.{◌≡◌, ℕ, ◌+◌, List, [], ◌∷◌, ◌++◌, length, length-append, Option, Some, None, Ok, refl, sym, ap, ◌∙◌, append_assoc, arith}
+use Rattle.std.proofs.Common.{◌≡◌, ◌+◌, List, [], ◌++◌, length, length-append, Option, Some, None, Ok, refl, sym, ap, ◌∙◌, append_assoc, arith}
 use Rattle.std.specs.Prelude.{IsSome}
 use Rattle.std.proofs.lemmas.List.{append-nil}
 use Rattle.copy_law.specs.Drifting.{IsBehind}
 use Rattle.ecat_link.specs.Exchanges.{Exchange}
 use Rattle.master_script.specs.Config.{settle_frames}
-use Rattle.master_script.specs.Script.{Arm, Call, Run, Settle}
+use Rattle.master_script.specs.Script.{Arm, Call, Run}
 use Rattle.run_counts.specs.Transmissions.{settling_sends}
 use Rattle.run_counts.proofs.Exported.{Drifted, Followed, followed, honest_replies, off, on, settled_drifted, settled_sends}
 use Rattle.run_of_file.specs.Commissioned.{IsCommissioned}

@@ -16,27 +16,25 @@ use Rattle.ecat_frame.specs.FrameGrammar.{FrameValue}
 use Rattle.ecat_link.specs.Exchanges.{Exchange}
 use Rattle.edge_law.specs.ToldStart.{KnowsTime, start_from}
 use Rattle.edge_law.proofs.SettledAt.{settle_frames_are, settled_behind, settled_exchanges_are}
-use Rattle.edge_law.proofs.ToldTimes.{since, start_early, whole_again}
+use Rattle.edge_law.proofs.ToldTimes.{start_early, whole_again}
 use Rattle.frame_pass.specs.SegmentState.{SegmentState, segment_step}
 use Rattle.loss_list.specs.declared.loss_row.Phase.TheVariants as frames
 use Rattle.lost_step.specs.LostStep.{loses}
 use Rattle.master_script.specs.Config.{ConfigValue, settle_frames, start_of}
 use Rattle.master_script.specs.Judged.{judged}
-use Rattle.master_script.specs.Progress.{Arming, Phase, Progress, Settling, after, brought, counted, drift_one, expected_time, moved, progress, settled as settled_step, settled_by, settling, timed}
+use Rattle.master_script.specs.Progress.{Phase, Progress, Settling, after, brought, counted, drift_one, expected_time, moved, progress, settled as settled_step, settled_by, settling, timed}
 use Rattle.master_script.specs.Slaves.{SlaveWords, clocks as clocks_told}
 use Rattle.master_script.specs.Steps.{expected, low_in}
 use Rattle.master_script.specs.Words.{Words, start_at}
 use Rattle.master_script.specs.declared.step.Refusal.{Refusal}
-use Rattle.master_script.specs.declared.step.Step.{Step}
 use Rattle.master_script.specs.declared.step.Step.TheVariants.{Drift}
 use Rattle.master_script.proofs.Exported.{commission_done, progress_push, progress_sent}
 use Rattle.run_counts.specs.Numbered.{AreNumbered}
 use Rattle.run_counts.specs.Transmissions.{settling_sends}
-use Rattle.run_counts.proofs.Exported.{Drifted, clocks_counted, ended, has_commissioned, honest_replies, in_phase, is_settled, one_drift_comes, ran_drifted}
+use Rattle.run_counts.proofs.Exported.{clocks_counted, ended, has_commissioned, honest_replies, in_phase, is_settled, one_drift_comes, ran_drifted}
 use Rattle.run_of_file.specs.Commissioned.{IsCommissioned, words_after}
 use Rattle.run_of_file.specs.MasterOfFile.{master_of}
 use Rattle.run_of_file.specs.RunOfFile.{RunEnd, frames_given, settled}
-use Rattle.segment_file.specs.Legal.{IsLegal}
 use Rattle.segment_file.specs.Segment.{SegmentValue, clocks}
 use Rattle.wrap_time.specs.Extended.{extended}
 
@@ -81,6 +79,7 @@ module _ (s : SegmentValue) (first : RunEnd) (it : IsCommissioned s first) (r : 
   record IsLast (k : ℕ) (w : Words) : Type 0 where
     frame : ℕ
     within : frame ≤ k
+    came : loses s frames.Drift frame ≡ false
     silent : AreLost frame k
     time : w.time ≡ Some (known frame)
 
@@ -109,7 +108,7 @@ module _ (s : SegmentValue) (first : RunEnd) (it : IsCommissioned s first) (r : 
   still_told k w now (inl silent) = inl (one_more 0 k silent now)
   still_told k w now (inr h) =
       let within = h.within in
-      inr (record { frame = h.frame; within = omega (arith, within); silent = one_more h.frame k h.silent now; time = h.time })
+      inr (record { frame = h.frame; within = omega (arith, within); came = h.came; silent = one_more h.frame k h.silent now; time = h.time })
 
   -- the end of settling
   module _ (k : ℕ) (q : Progress) (unrefused : q.refused ≡ None) (phase : q.phase ≡ Settling) (h : Stands k q) where
@@ -138,22 +137,22 @@ module _ (s : SegmentValue) (first : RunEnd) (it : IsCommissioned s first) (r : 
 
     module _ (q : Progress) (unrefused : q.refused ≡ None) (phase : q.phase ≡ Settling) (latch : q.words.latched ≡ latched) (drifts : q.drifts ≡ k + 1) (sent : q.sent ≡ length first.exchanges + (k + 1))
         (told : IsTold k q.words) (f : FrameValue) where
-      came_stands : (g : FrameValue) (o : Option Refusal) → low_in g ≡ known (k + 1) % 2 ^ 32 → StandsBy (k + 1) (timed cfg q g o) (timed cfg q g o).refused
-      came_stands g (Some x) low = tt
-      came_stands g None low =
+      came_stands : (g : FrameValue) (o : Option Refusal) → loses s frames.Drift (k + 1) ≡ false → low_in g ≡ known (k + 1) % 2 ^ 32 → StandsBy (k + 1) (timed cfg q g o) (timed cfg q g o).refused
+      came_stands g (Some x) comes low = tt
+      came_stands g None comes low =
           settled_stands (k + 1) (brought cfg q g) unrefused phase
           (record {
             latch = latch;
             drifts = drifts;
             sent = sent;
-            told = inr (record { frame = k + 1; within = omega arith; silent = λ i after few. absurd (omega (arith, after, few)); time = brings_time q g sent latch low });
+            told = inr (record { frame = k + 1; within = omega arith; came = comes; silent = λ i after few. absurd (omega (arith, after, few)); time = brings_time q g sent latch low });
           })
 
       back_stands : (back : Option FrameValue) → is_none back ≡ loses s frames.Drift (k + 1) → ((g : FrameValue) → back ≡ Some g → low_in g ≡ known (k + 1) % 2 ^ 32)
           → StandsBy (k + 1) (settling cfg q f back) (settling cfg q f back).refused
       back_stands None now low =
           settled_stands (k + 1) q unrefused phase (record { latch = latch; drifts = drifts; sent = sent; told = still_told k q.words (sym now) told })
-      back_stands (Some g) now low = came_stands g (judged (Drift q.drifts) (expected cfg q.words (Drift q.drifts) g) f g) (low g refl)
+      back_stands (Some g) now low = came_stands g (judged (Drift q.drifts) (expected cfg q.words (Drift q.drifts) g) f g) (sym now) (low g refl)
 
     after_stands : (p : Progress) (e : Exchange) → p.refused ≡ None → p.phase ≡ Settling → Stands k p → is_none e.back ≡ loses s frames.Drift (k + 1)
         → ((g : FrameValue) → e.back ≡ Some g → low_in g ≡ known (k + 1) % 2 ^ 32) → StandsBy (k + 1) (after cfg p e) (after cfg p e).refused
@@ -241,7 +240,14 @@ module _ (s : SegmentValue) (first : RunEnd) (it : IsCommissioned s first) (r : 
       let low = c.1 in
       let high = c.2 in
       absurd (let x : true ≡ false = sym (silent c.0 (omega (arith, low)) (omega (arith, high))) ∙ c.3 in cc)
-  knows w (inr h) = record { frame = h.frame; recent = by (cases_lt (h.frame + s.head.loss_run) (settling_sends s)); within = h.within; time = h.time }
+  knows w (inr h) = record {
+    frame = h.frame;
+    within = h.within;
+    came = h.came;
+    last = h.silent;
+    recent = by (cases_lt (h.frame + s.head.loss_run) (settling_sends s));
+    time = h.time;
+  }
     where
       by : (h.frame + s.head.loss_run < settling_sends s) ⊎ (settling_sends s ≤ h.frame + s.head.loss_run) → settling_sends s ≤ h.frame + s.head.loss_run
       by (inr recent) = recent

@@ -1,9 +1,8 @@
 -- The time that a master makes of the low half of the reference's.
-use Rattle.std.proofs.Common.{◌≡◌, ℕ, ◌+◌, ◌-◌, ◌*◌, ◌%◌, ◌^◌, ◌<◌, ◌≤◌, length, sym, ap, ap₂, ◌∙◌, arith}
-use Rattle.std.proofs.Math.Nat.{add-mul, mod-eq_of_lt, mul-le-mul_right}
-use Rattle.cable_tree.specs.PathSums.{arrive}
+use Rattle.std.proofs.Common.{◌≡◌, ℕ, ◌+◌, ◌-◌, ◌*◌, ◌%◌, ◌^◌, ◌<◌, ◌≤◌, length, ap, ◌∙◌, arith}
+use Rattle.std.proofs.Math.Nat.{mod-eq_of_lt, mul-le-mul_right}
 use Rattle.copy_law.specs.Drawn.{arrives_at}
-use Rattle.copy_law.specs.Receipts.{IsReference, sent_at}
+use Rattle.copy_law.specs.Receipts.{IsReference}
 use Rattle.copy_law.specs.SinceLatch.{latch_arrival}
 use Rattle.copy_law.specs.WholeTimes.{reference_time}
 use Rattle.copy_law.proofs.Exported.{few_behind, latched_within, periods_between, reference_clock, reference_low, ticks_over}
@@ -22,8 +21,7 @@ use Rattle.run_counts.specs.Transmissions.{settling_sends}
 use Rattle.run_of_file.specs.Commissioned.{IsCommissioned, words_after}
 use Rattle.run_of_file.specs.MasterOfFile.{master_of}
 use Rattle.run_of_file.specs.RunOfFile.{RunEnd}
-use Rattle.segment_file.specs.Legal.{IsLegal}
-use Rattle.segment_file.specs.Segment.{SegmentValue, clocks, oscillator, row_at, tree_row, tree_rows}
+use Rattle.segment_file.specs.Segment.{SegmentValue, clocks, oscillator, tree_row}
 use Rattle.segment_file.proofs.Exported.{counted, legal_frames}
 use Rattle.std.proofs.lemmas.List.{length-map}
 use Rattle.wrap_time.specs.Extended.{extended}
