@@ -1,11 +1,12 @@
 -- What a drift frame brings one slave.
 use Rattle.std.proofs.Common.{◌≡◌, ◌≢◌, ℕ, ◌+◌, ◌%◌, ◌^◌, ◌<◌, ◌≤◌, ◌==◌, Bool, true, false, List, [], ◌∷◌, length, Some, refl, sym, ap, ap₂, subst, ◌∙◌, eq-eqb, arith}
-use Rattle.std.specs.Prelude.{nat_lt, not, slice_get}
+use Rattle.std.specs.Prelude.{nat_lt, not, slice_get, slice_index_or}
 use Rattle.std.proofs.lemmas.Bool.Decides.{nat_tests}
 use Rattle.copy_law.proofs.Unwritten.{left_none}
 use Rattle.copy_law.proofs.OnTheWay.{IsDrifting, cut_behind, first_like, others_behind, others_none}
 use Rattle.ecat_frame.specs.FrameGrammar.{DatagramValue}
 use Rattle.esc_regs.specs.RegisterAccess.{is_refused}
+use Rattle.esc_regs.specs.RegisterBytes.{number_at}
 use Rattle.esc_regs.specs.declared.clock_kind.ClockKind.{ClockKind}
 use Rattle.frame_pass.specs.Advancing.{measuring_at}
 use Rattle.frame_pass.specs.ClockHistory.{events_passed}
@@ -22,7 +23,7 @@ use Rattle.master_script.specs.Frames.{drift_datagram}
 use Rattle.honest_slaves.specs.Standing.{Stands, own_address}
 use Rattle.esc_regs.specs.Kinds.{has_clock}
 use Rattle.frame_pass.specs.Aside.{HaveSize}
-use Rattle.frame_pass.specs.Drift.{IsDrift, IsOther, first_behind}
+use Rattle.frame_pass.specs.Drift.{Brings, IsDrift, IsOther, first_behind}
 use Rattle.frame_pass.proofs.Exported.{behind_others, carried, events_first, frame_addressed, frame_receives, passes_refused, quiet_unwritten, same_refusal}
 
 -- the low half of the system time that a slave has when the frame arrives
@@ -74,6 +75,17 @@ module _ (kinds : ℕ → ClockKind) (statuses : ℕ → ℕ) (n : ℕ) (sent : 
     there : (p : ℕ) → datagrams_behind p sent ss ds ≡ first_at p ∷ rest_at p
     there p = ap (λ (es : List DatagramValue). datagrams_behind p sent ss es) drifting.are ∙ cut_behind p sent ss (drift_datagram r) drifting.others
 
+    -- behind the reference the first datagram brings what the reference counts
+    brings_time : (p : ℕ) (w : Slave) (k : Timing) → r < p → has_clock (kinds r) ≡ true → slice_get ss r ≡ Some w → w.timing ≡ Some k → Brings (word_at sent w k) (drift_datagram r) (first_at p)
+    brings_time p w k low own at_r timing_r =
+        carried p sent r ss (drift_datagram r) w k low at_r timing_r (stands_named r w at_r).slave.size (is_drift r) (refuses r w (drift_datagram r) at_r refl refl ∙ ap not own)
+        (own_stands r w at_r) (λ i u less at other. other_stands r i u other at)
+
+    pub time_told : (p : ℕ) (w : Slave) (k : Timing) (none : DatagramValue) → r < p → has_clock (kinds r) ≡ true → slice_get ss r ≡ Some w → w.timing ≡ Some k
+        → number_at 4 0 (slice_index_or (datagrams_behind p sent ss ds) 0 none).payload ≡ word_at sent w k
+    time_told p w k none low own at_r timing_r =
+        ap (λ (es : List DatagramValue). number_at 4 0 (slice_index_or es 0 none).payload) (there p) ∙ (brings_time p w k low own at_r timing_r).time
+
     -- a clock behind the reference
     pub clock_receives : (p : ℕ) (v w : Slave) (m k : Timing) → r < p → has_clock (kinds p) ≡ true → has_clock (kinds r) ≡ true → slice_get ss p ≡ Some v → v.timing ≡ Some m
         → m.clock.instant ≤ sent + v.visits.arrive → slice_get ss r ≡ Some w → w.timing ≡ Some k
@@ -83,8 +95,7 @@ module _ (kinds : ℕ → ClockKind) (statuses : ℕ → ℕ) (n : ℕ) (sent : 
         let e = first_at p in
         let h = stands_named p v is in
         let far : p ≢ r = λ same. omega (arith, same, low) in
-        let brings = carried p sent r ss d w k low at_r timing_r (stands_named r w at_r).slave.size (is_drift r) (refuses r w d at_r refl refl ∙ ap not own) (own_stands r w at_r)
-        (λ i u less at other. other_stands r i u other at) in
+        let brings = brings_time p w k low own at_r timing_r in
         ap (λ (es : List DatagramValue). events_passed sent v es) (there p)
         ∙ frame_receives sent v m e (rest_at p) h.slave.size timing early brings.drift (refuses p v e is brings.drift.ado brings.drift.size ∙ ap not clock)
         (ap (λ (a : ℕ). a == station v.registers) brings.adp ∙ (other_stands r p v far is).station)

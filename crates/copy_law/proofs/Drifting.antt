@@ -147,6 +147,10 @@ module _ (s : SegmentValue) (legal : IsLegal s) (k : ℕ) (t : SegmentState) (e 
       let r = runs_cut segment_step f.before (e ∷ f.rest) f.first.state f.run.state runs in
       subst (λ (u : SegmentState). Runs segment_step (Some u) (e ∷ f.rest) (Some f.run.state)) (runs_once segment_step f.before f.first.state r.0 t r.1 f.led) r.2
 
+  -- what it brings back
+  pub comes_back : e.back ≡ (segment_step t e.wait_ns e.sent).1
+  comes_back = led_on.0
+
   pub left_behind : IsBehind s (k + 1) (segment_step t e.wait_ns e.sent).0
   left_behind =
       let n = f.number in

@@ -9,7 +9,7 @@ pub use Rattle.copy_law.proofs.Slaves.{IsQuiet, IsKept, plain_held, corrections_
 -- Behind commissioning the slaves hold what they held.
 pub use Rattle.copy_law.proofs.Held.{settled_holds, armed_holds, ran_holds}
 -- The states behind drift frames: the way there, and what each frame keeps of them.
-pub use Rattle.copy_law.proofs.Drifting.{begins_behind, frame_there, last_behind, found_behind, left_behind, same_first, same_before, one_behind, one_before, last_frame, behind_induction}
+pub use Rattle.copy_law.proofs.Drifting.{begins_behind, frame_there, last_behind, found_behind, comes_back, left_behind, same_first, same_before, one_behind, one_before, last_frame, behind_induction}
 -- What holds of these states: the run as if it ended there, what drift frames keep of slaves, and the rest of the law.
 pub use Rattle.copy_law.proofs.Standing.{file_first, file_step, cut, from_start, scripted, drifted, behind_alike, corrections_behind, stands_behind}
 -- The reference of a file is the clock that commissioning finds.
@@ -42,3 +42,9 @@ pub use Rattle.copy_law.proofs.Passing.{IsCut, cut_at}
 pub use Rattle.copy_law.proofs.Locked.{locked}
 -- The copies of a run are near each other, as whole numbers and as words.
 pub use Rattle.copy_law.proofs.CopiesNear.{further, wire_delay_is, small_bound, half_range, commissioned_first, in_rows, whole_copies_near, copies_stay}
+-- How many frame periods lie between two frames.
+pub use Rattle.copy_law.proofs.LockSizes.{periods_between}
+-- What a drift frame that comes back tells of the time of the reference.
+pub use Rattle.copy_law.proofs.Replies.{low_told}
+-- A number that a datagram stores, as it is read again.
+pub use Rattle.copy_law.proofs.Registers.{number_brought, word_is}

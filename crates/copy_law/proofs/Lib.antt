@@ -30,6 +30,7 @@ mod Drawing
 mod Locked
 mod Passing
 mod CopiesNear
+mod Replies
 pub mod Readings
 pub mod Times
 pub mod References

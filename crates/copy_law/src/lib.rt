@@ -42,7 +42,7 @@
 //! compensation frames every difference is at most Q of `loss_run` + 1 frame periods ([`laws::differences_are_locked`]), and from the end
 //! of settling on each local copy is within X of that of the reference ([`laws::copies_are_near`]).
 //!
-//! A law on the edges of a run goes into a crate above this one, which is not there yet.
+//! A law on the edges of a run goes into the crate above this one, `edge_law`.
 #![tactic(auto)]
 
 pub mod laws;

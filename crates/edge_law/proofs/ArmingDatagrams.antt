@@ -6,7 +6,7 @@ use Rattle.std.proofs.lemmas.Bool.Decides.{nat_tests}
 use Rattle.std.proofs.lemmas.Nat.{pow_pos}
 use Rattle.byteorder.specs.Endian.{little_bytes}
 use Rattle.byteorder.specs.Numbers.{little_from-bytes}
-use Rattle.copy_law.proofs.Registers.{number_brought, word_is}
+use Rattle.copy_law.proofs.Exported.{number_brought, word_is}
 use Rattle.ecat_frame.specs.FrameGrammar.{DatagramValue}
 use Rattle.ecat_frame.specs.declared.command.Command.TheVariants.{Fpwr}
 use Rattle.esc_regs.specs.Kinds.{has_clock}

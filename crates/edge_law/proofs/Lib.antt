@@ -1,3 +1,7 @@
+mod ToldTimes
+mod SettledAt
+mod ToldStart
+mod StartStays
 mod ArmingDatagrams
 mod ArmingVisit
 mod ArmingStep

@@ -1,1 +1,2 @@
 pub mod ArmedUnits
+pub mod ToldStart

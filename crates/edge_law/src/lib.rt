@@ -2,6 +2,11 @@
 //!
 //! They speak of the run of a legal file that is not refused, and are read in this order.
 //!
+//! **When the units start.** The time of the reference that a master knows after settling is whole: what the reference has
+//! counted, from the epoch on, until the last settle frame that came back arrived there, and that is one of the last
+//! `loss_run` + 1 of them. The start is the first whole number of cycles after that time and the lead
+//! ([`laws::reference_times_are_whole`]).
+//!
 //! **What arming leaves.** After settling a master arms the units of the clocks, one after another. Each frame of Arm
 //! carries the start, the cycle and the SYNC1 time of one clock (ESC data sheet, 0x0990, 0x09A0, 0x09A4), and then its
 //! activation (0x0981). It is sent again until it comes back, and a try that was lost may have armed the unit before.
@@ -9,7 +14,7 @@
 //! SYNC1 time of the file, and no edge kept. From its arrival on, the unit and the kept edges are those of the unit's
 //! calls, and the copies at their ticks are those of the clock's history ([`laws::units_are_armed`]).
 //!
-//! When these edges are is not proved yet; this law is what a proof of it begins with.
+//! When these edges are is not proved yet; these laws are what a proof of it begins with.
 #![tactic(auto)]
 
 pub mod laws;
