@@ -116,7 +116,7 @@ module _ (s : SegmentValue) (first before : RunEnd) (it : IsCommissioned s first
             (walk_running s it.legal p low is first w (length mid.exchanges) (frames_given s) (omega arith) goes.more mid.exchanges mid.state run.state armed_then goes.sends goes.runs)
 
 -- a phase behind those before it, where it ended with Ok
-ran_parts : (s : SegmentValue) (run : RunEnd) → ran s ≡ Some run → run.answer ≡ Ok tt → (mid : RunEnd) × (armed s ≡ Some mid) × (mid.answer ≡ Ok tt) × HasGone s (Run (frames_given s)) mid run
+pub ran_parts : (s : SegmentValue) (run : RunEnd) → ran s ≡ Some run → run.answer ≡ Ok tt → (mid : RunEnd) × (armed s ≡ Some mid) × (mid.answer ≡ Ok tt) × HasGone s (Run (frames_given s)) mid run
 unfolding ran
 ran_parts s run is ok = let f = followed s (Run (frames_given s)) (armed s) run is in by f.0 f.1 f.2
   where
@@ -124,7 +124,7 @@ ran_parts s run is ok = let f = followed s (Run (frames_given s)) (armed s) run 
     by one is_one (off e told same) = absurd (let x : Ok tt ≡ Err e = sym ok ∙ ap (λ (r : RunEnd). r.answer) (sym same) ∙ told in cc)
     by one is_one (on done gone) = (one, is_one, done, gone)
 
-armed_parts : (s : SegmentValue) (run : RunEnd) → armed s ≡ Some run → run.answer ≡ Ok tt → (before : RunEnd) × (settled s ≡ Some before) × (before.answer ≡ Ok tt) × HasGone s ArmCall before run
+pub armed_parts : (s : SegmentValue) (run : RunEnd) → armed s ≡ Some run → run.answer ≡ Ok tt → (before : RunEnd) × (settled s ≡ Some before) × (before.answer ≡ Ok tt) × HasGone s ArmCall before run
 unfolding armed
 armed_parts s run is ok = let f = followed s ArmCall (settled s) run is in by f.0 f.1 f.2
   where
@@ -133,7 +133,7 @@ armed_parts s run is ok = let f = followed s ArmCall (settled s) run is in by f.
     by one is_one (on done gone) = (one, is_one, done, gone)
 
 -- the whole run is that of its phases, and every slave has gone on to its end
-whole_parts : (s : SegmentValue) (run : RunEnd) → run_of s ≡ Some run → run.answer ≡ Ok tt
+pub whole_parts : (s : SegmentValue) (run : RunEnd) → run_of s ≡ Some run → run.answer ≡ Ok tt
     → (last : RunEnd) × (ran s ≡ Some last) × (last.answer ≡ Ok tt) × (record last { state = finished (end_of_run s last.state) last.state } ≡ run)
 unfolding run_of
 whole_parts s run is ok = by (ran s) refl is

@@ -8,4 +8,7 @@ mod ArmingStep
 mod ArmingProgress
 mod ArmingWalk
 mod ArmedRuns
+mod Ahead
+mod Raised
+mod Edges
 pub mod Exported

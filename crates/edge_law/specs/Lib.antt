@@ -1,2 +1,3 @@
 pub mod ArmedUnits
 pub mod ToldStart
+pub mod RunEdges
