@@ -42,7 +42,7 @@ use Rattle.segment_file.specs.Segment.{SegmentValue, clock_at, clocks, counts_of
 use Rattle.segment_file.proofs.Exported.{counted, faultless, legal_round_trip, row_within}
 use Rattle.segment_start.specs.Start.{started_segment}
 
-clock_measures : (k : ClockKind) → has_clock k ≡ true → measures k ≡ true
+pub clock_measures : (k : ClockKind) → has_clock k ≡ true → measures k ≡ true
 clock_measures kind.None is = absurd (let x = is in cc)
 clock_measures kind.R32 is = absurd (let x = is in cc)
 clock_measures kind.C32 is = refl
@@ -73,7 +73,7 @@ starts_soon s legal =
     omega (arith, soon, parts, whole)
 
 module _ (s : SegmentValue) (legal : IsLegal s) (p : ℕ) (low : p < length s.rows) where
-  arrives_inside : arrive (tree_rows s.rows) (row_at s p) ≤ round_trip (tree_rows s.rows)
+  pub arrives_inside : arrive (tree_rows s.rows) (row_at s p) ≤ round_trip (tree_rows s.rows)
   arrives_inside =
       let row = row_within s legal p low in
       let rows = length-map s.rows tree_row in

@@ -42,7 +42,7 @@ use Rattle.segment_start.specs.Start.{started_segment}
 some_same : {X : Type 0} {x y : X} → Some x ≡ Some y → x ≡ y
 some_same e = cc
 
-finished_many : (t : ℕ) (u : SegmentState) → length (finished t u).slaves ≡ length u.slaves
+pub finished_many : (t : ℕ) (u : SegmentState) → length (finished t u).slaves ≡ length u.slaves
 unfolding finished
 finished_many t u = length-map u.slaves (advanced_to t)
 

@@ -11,4 +11,6 @@ mod ArmedRuns
 mod Ahead
 mod Raised
 mod Edges
+mod EndOfRun
+mod Apart
 pub mod Exported

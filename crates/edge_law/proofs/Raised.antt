@@ -91,7 +91,7 @@ last_file : (s : SegmentValue) (legal : IsLegal s) (last : RunEnd) → ran s ≡
 last_file s legal last is = kept_by_runs (IsOfFile s) (file_step s legal) last.exchanges (started_segment s) last.state (ran_exchanges s last is) (file_first s legal)
 
 -- behind all of its frames
-abbrev whole_behind : (s : SegmentValue) (first last : RunEnd) (it : IsCommissioned s first) (is : ran s ≡ Some last) → IsBehind s (length (ran_drifted s it.legal first last it.is is).more) last.state
+abbrev pub whole_behind : (s : SegmentValue) (first last : RunEnd) (it : IsCommissioned s first) (is : ran s ≡ Some last) → IsBehind s (length (ran_drifted s it.legal first last it.is is).more) last.state
 whole_behind s first last it is =
     let d = ran_drifted s it.legal first last it.is is in
     record {
