@@ -130,3 +130,59 @@ module _ (s : SegmentValue) (first before run : RunEnd) (it : IsCommissioned s f
       let up = near.above in
       let down = near.below in
       record { above = omega (arith, up, order); below = omega (arith, down, order) }
+
+  -- two signals
+  module _ (p : ℕ) (is_p : has_clock (kind_at s p) ≡ true) (v : Slave) (at_p : slice_get run.state.slaves p ≡ Some v) (m : Timing) (has_p : v.timing ≡ Some m) (signal : Signal) (signals : HasSignal (row_there s p) signal)
+      (q : ℕ) (is_q : has_clock (kind_at s q) ≡ true) (w : Slave) (at_q : slice_get run.state.slaves q ≡ Some w) (n : Timing) (has_q : w.timing ≡ Some n) (other : Signal) (others : HasSignal (row_there s q) other)
+      (k : ℕ) (early : k < s.head.cycles) where
+    abbrev here : IsEdgeOf s first before run it settled_is run_is ok p is_p v at_p m has_p signal signals k early
+    here = edge_of_run s first before run it settled_is run_is ok p is_p v at_p m has_p signal signals k early
+
+    abbrev there : IsEdgeOf s first before run it settled_is run_is ok q is_q w at_q n has_q other others k early
+    there = edge_of_run s first before run it settled_is run_is ok q is_q w at_q n has_q other others k early
+
+    abbrev a : ℕ
+    a = shift_of (row_there s p) signal
+
+    abbrev b : ℕ
+    b = shift_of (row_there s q) other
+
+    abbrev x : ℕ
+    x = copy_bound_at s (row_at s p)
+
+    abbrev y : ℕ
+    y = copy_bound_at s (row_at s q)
+
+    low_p : p < length s.rows
+    low_p = is_low s first before run it settled_is run_is ok p is_p v at_p m has_p signal signals k early
+
+    low_q : q < length s.rows
+    low_q = is_low s first before run it settled_is run_is ok q is_q w at_q n has_q other others k early
+
+    instants_near : IsNear (there.instant + 1000000 * a) (here.instant + 1000000 * b) (window s.head.ppm (apart a b) x y)
+    instants_near =
+        let near_p = near_then p low_p is_p here.frame here.instant here.behind here.raised.after here.raised.by in
+        let near_q = near_then q low_q is_q there.frame there.instant there.behind there.raised.after there.raised.by in
+        let late_p = latched_then p low_p is_p here.frame here.instant here.behind here.raised.after here.raised.by in
+        let late_q = latched_then q low_q is_q there.frame there.instant there.behind there.raised.after there.raised.by in
+        elim (cases_lt there.instant here.instant) [
+          | inr order ↦
+              apart_by a b x y _ _ _ _ here.instant there.instant late_p order near_p near_q here.raised.reached here.raised.near there.raised.reached there.raised.near (omega arith)
+          | inl back ↦
+              let turned = apart_by b a y x _ _ _ _ there.instant here.instant late_q (omega (arith, back)) near_q near_p there.raised.reached there.raised.near here.raised.reached here.raised.near (omega arith) in
+              let same = turned_window s.head.ppm a b x y in
+              let up = turned.above in
+              let down = turned.below in
+              record { above = omega (arith, down, same); below = omega (arith, up, same) }
+        ]
+
+    -- so are the edges that are kept
+    pub edges_in_window : (e f : Edge) → slice_get (edges_of signal m.edges.edges) k ≡ Some e → slice_get (edges_of other n.edges.edges) k ≡ Some f
+        → IsNear (f.time_fs + 1000000 * a) (e.time_fs + 1000000 * b) (window s.head.ppm (apart a b) x y)
+    edges_in_window e f kept_e kept_f =
+        let time_e = ap (λ (z : Edge). z.time_fs) (some_same (sym kept_e ∙ here.raised.is_kept)) in
+        let time_f = ap (λ (z : Edge). z.time_fs) (some_same (sym kept_f ∙ there.raised.is_kept)) in
+        let near = instants_near in
+        let up = near.above in
+        let down = near.below in
+        record { above = omega (arith, up, time_e, time_f); below = omega (arith, down, time_e, time_f) }

@@ -1,20 +1,32 @@
 //! The start of the units, and what arming leaves of them.
 
-ghost use Rattle.std.specs.Prelude.{◌≡◌, ℕ, true, Some, Ok, slice_get};
+ghost use Rattle.std.specs.Prelude.{◌≡◌, ℕ, ◌+◌, ◌*◌, ◌<◌, true, length, Some, Ok, slice_get};
 ghost use Rattle.copy_law.specs.Drawn.{arrives_at};
 ghost use Rattle.copy_law.specs.History.{history_from};
 ghost use Rattle.copy_law.specs.Receipts.{IsReference};
 ghost use Rattle.copy_law.specs.WholeTimes.{reference_time};
+ghost use Rattle.dc_bounds.specs.CopyBound.{window};
+ghost use Rattle.dc_bounds.specs.LockNumbers.{period_fs};
+ghost use Rattle.dc_bounds.specs.TickFacts.{IsNear};
+ghost use Rattle.delay_law.specs.Resting.{row_there};
+ghost use Rattle.edge_law.specs.RunEdges.{IsRaised};
+ghost use Rattle.edge_report.specs.Edges.{HasSignal, shift_of};
+ghost use Rattle.run_counts.specs.Transmissions.{settling_sends};
+ghost use Rattle.segment_bounds.specs.Bounds.{copy_bound_at};
+ghost use Rattle.segment_bounds.specs.Window.{apart};
+ghost use Rattle.sync_units.specs.Edges.{edges_of};
+ghost use Rattle.sync_units.specs.declared.edge.Edge.{Edge};
+ghost use Rattle.sync_units.specs.declared.edge.Signal.{Signal};
 ghost use Rattle.edge_law.specs.ArmedUnits.{IsArmedSince};
 ghost use Rattle.edge_law.specs.ToldStart.{KnowsTime, start_from};
 ghost use Rattle.esc_regs.specs.Kinds.{has_clock};
-ghost use Rattle.frame_pass.specs.SlaveState.{Slave};
+ghost use Rattle.frame_pass.specs.SlaveState.{Slave, Timing};
 ghost use Rattle.honest_slaves.specs.FileSlaves.{kind_at};
 ghost use Rattle.master_script.specs.Words.{start_at};
 ghost use Rattle.run_of_file.specs.Commissioned.{IsCommissioned, words_after};
 ghost use Rattle.run_of_file.specs.MasterOfFile.{master_of};
 ghost use Rattle.run_of_file.specs.RunOfFile.{RunEnd, ran, run_of, settled};
-ghost use Rattle.segment_file.specs.Segment.{SegmentValue};
+ghost use Rattle.segment_file.specs.Segment.{SegmentValue, row_at};
 ghost use Rattle.segment_start.specs.Start.{started_segment};
 
 /// The time that the master knows after settling is whole: it is what the reference has counted, from the epoch on, until the last settle
@@ -43,4 +55,29 @@ pub fn units_are_armed()
         → run_of s ≡ Some run → run.answer ≡ Ok tt → slice_get run.state.slaves p ≡ Some v → has_clock (kind_at s p) ≡ true
         → IsArmedSince s first p (start_at (master_of s) (words_after s before))
         (history_from (started_segment s) run.exchanges p) v }
+{}
+
+/// Where a run is not refused, each signal of the file raises an edge of each index below `cycles`, after the last arming and at or before
+/// the end of the run. It is at a tick at which the whole copy of the clock has come to what is due, and is at most 10 ns above. The list of
+/// the signal's edges keeps it at the place of its index.
+pub fn edges_are_raised()
+    ensures { (s : SegmentValue) (first before run : RunEnd) (p k : ℕ) (v : Slave) (m : Timing) (signal : Signal) → IsCommissioned s first
+        → settled s ≡ Some before → run_of s ≡ Some run → run.answer ≡ Ok tt → slice_get run.state.slaves p ≡ Some v
+        → v.timing ≡ Some m → has_clock (kind_at s p) ≡ true → HasSignal (row_there s p) signal → k < s.head.cycles
+        → (frame : ℕ) × (u : ℕ) × (settling_sends s < frame)
+        × IsRaised s (words_after s first) p signal (start_at (master_of s) (words_after s before)) k (arrives_at s first frame p)
+        ((length run.exchanges + 1) * period_fs s.head.frame_ns) u (history_from (started_segment s) run.exchanges p) m.edges.edges }
+{}
+
+/// The edges of one index of two signals are as far apart as their shifts say, but for at most the window W of these signals.
+pub fn edges_are_in_the_window()
+    ensures { (s : SegmentValue) (first before run : RunEnd) (p q k : ℕ) (v w : Slave) (m n : Timing) (signal other : Signal) (e f : Edge)
+        → IsCommissioned s first → settled s ≡ Some before → run_of s ≡ Some run → run.answer ≡ Ok tt
+        → slice_get run.state.slaves p ≡ Some v → slice_get run.state.slaves q ≡ Some w → v.timing ≡ Some m → w.timing ≡ Some n
+        → has_clock (kind_at s p) ≡ true → has_clock (kind_at s q) ≡ true
+        → HasSignal (row_there s p) signal → HasSignal (row_there s q) other → k < s.head.cycles
+        → slice_get (edges_of signal m.edges.edges) k ≡ Some e → slice_get (edges_of other n.edges.edges) k ≡ Some f
+        → IsNear (f.time_fs + 1000000 * shift_of (row_there s p) signal) (e.time_fs + 1000000 * shift_of (row_there s q) other)
+        (window s.head.ppm (apart (shift_of (row_there s p) signal) (shift_of (row_there s q) other)) (copy_bound_at s (row_at s p))
+        (copy_bound_at s (row_at s q))) }
 {}
