@@ -6,6 +6,8 @@ use Rattle.copy_law.proofs.Exported.{copies_stay, locked}
 use Rattle.dc_bench.specs.BenchState.{BenchState}
 use Rattle.delay_law.specs.NearDelays.{AreNear}
 use Rattle.delay_law.proofs.Exported.{commissioned_near, later_near, whole_near}
+use Rattle.edge_law.specs.InWindow.{AreEdgesWithin}
+use Rattle.edge_law.proofs.Exported.{within_window}
 use Rattle.edge_report.specs.Delays.{AreDelays}
 use Rattle.frame_pass.specs.SegmentState.{SegmentState}
 use Rattle.lost_step.specs.LostStep.{lost_step_of}
@@ -24,7 +26,7 @@ use Rattle.run_counts.specs.Answers.{answer_for}
 use Rattle.segment_bench.specs.BenchRun.{HasRun}
 use Rattle.segment_file.specs.Legal.{IsLegal}
 use Rattle.segment_file.specs.Segment.{SegmentValue}
-use Rattle.dc_top.specs.Runs.{HasMade, Together, goes_on}
+use Rattle.dc_top.specs.Runs.{HasMade, InWindow, Together, goes_on}
 use Rattle.dc_top.specs.Transmissions.{Sends, SendsRun}
 use Rattle.dc_top.specs.declared.report.Report.{Report}
 use Rattle.dc_top.specs.declared.report.Report.TheVariants.{Delays, Run, Drill}
@@ -122,6 +124,17 @@ pub come_together : (r : Report) (s : SegmentValue) → IsLegal s → Together r
 come_together Delays s legal = tt
 come_together (Run edges) s legal = record { lock_in = locked s legal; copies = copies_stay s legal }
 come_together Drill s legal = record { lock_in = locked s legal; copies = copies_stay s legal }
+
+-- ---- its edges
+
+edges_within : (s : SegmentValue) (b : BenchState) → IsLegal s → HasRun s b (Ok tt) → AreEdgesWithin s b.wire.slaves
+edges_within s b legal at =
+    subst (λ (x : SegmentState). AreEdgesWithin s x.slaves) (sym at.0.segment_is) (within_window s legal at.0.end at.0.run_is at.0.answer_is)
+
+pub lie_within : (r : Report) (s : SegmentValue) (b : BenchState) → IsLegal s → HasMade r s b (Ok tt) → InWindow r s b
+lie_within Delays s b legal at = tt
+lie_within (Run edges) s b legal at = edges_within s b legal at
+lie_within Drill s b legal at = edges_within s b legal at
 
 -- ---- the frames that it has sent
 

@@ -17,7 +17,7 @@ use Rattle.dc_top.specs.declared.outcome.Outcome.TheVariants.{BadText, BadSegmen
 use Rattle.dc_top.specs.declared.report.Report.{Report}
 use Rattle.dc_top.specs.declared.seg_fault.SegFault.{SegFault}
 use Rattle.dc_top.specs.declared.seg_fault.SegFault.TheVariants.{Shape, Twice, Tree, Rate, NoReference, Unmeasurable, TooSlow, NoLock, Lead, LossRun, TooMuch}
-use Rattle.dc_top.proofs.Behind.{come_together, delays_near, delays_there, frames_few, frames_told, near_if_later, none_lost, step_lost}
+use Rattle.dc_top.proofs.Behind.{come_together, delays_near, delays_there, frames_few, frames_told, lie_within, near_if_later, none_lost, step_lost}
 
 no_memory : (fault : SegFault) → error_of fault ≡ error.NoMemory → ⊥
 no_memory (Shape path) e = cc
@@ -50,6 +50,7 @@ reported r s b legal run = record {
   delays = delays_there r s b legal run;
   near = delays_near r s b legal run;
   together = come_together r s legal;
+  window = lie_within r s b legal run;
   sends = frames_told r s b legal run;
   few = frames_few r s b (Ok tt) legal run;
   written = refl;

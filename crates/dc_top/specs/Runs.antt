@@ -3,6 +3,7 @@ use Rattle.std.specs.Prelude.{◌≡◌, ◌≤◌, ⊤, ℕ, Bool, true, false,
 use Rattle.copy_law.specs.Together.{AreCopiesNear, AreLocked}
 use Rattle.dc_bench.specs.BenchState.{BenchState}
 use Rattle.delay_law.specs.NearDelays.{AreNear}
+use Rattle.edge_law.specs.InWindow.{AreEdgesWithin}
 use Rattle.edge_report.specs.Delays.{AreDelays}
 use Rattle.lost_step.specs.LostStep.{lost_step_of}
 use Rattle.master_script.specs.Script.{Answer}
@@ -48,15 +49,22 @@ Together Delays s = ⊤
 Together (Run edges) s = AreTogether s
 Together Drill s = AreTogether s
 
+-- its units have raised all their edges, within the window of each two; commissioning alone arms none
+abbrev pub InWindow : Report → SegmentValue → BenchState → Type 0
+InWindow Delays s b = ⊤
+InWindow (Run edges) s b = AreEdgesWithin s b.wire.slaves
+InWindow Drill s b = AreEdgesWithin s b.wire.slaves
+
 -- A bench has made the run of this segment, of which no step loses its three tries, and the text is what is written of it. Each clock has
--- a delay, which lies within the delay bound of the true one, and the clocks of a whole run come together; the frames that were sent are as
--- many as the file tells, and few.
+-- a delay, which lies within the delay bound of the true one; the clocks of a whole run come together, and their edges lie within the window; the
+-- frames that were sent are as many as the file tells, and few.
 pub record IsReportOf (report : Report) (segment : SegmentValue) (text : List ℕ) (bench : BenchState) : Type 0 where
   pub run : HasMade report segment bench (Ok tt)
   pub losses : lost_step_of segment (goes_on report) ≡ None
   pub delays : AreDelays segment bench.master.delays
   pub near : AreNear segment bench.master.delays
   pub together : Together report segment
+  pub window : InWindow report segment bench
   pub sends : Sends report segment bench
   pub few : bench.master.sent ≤ 100000
   pub written : text ≡ text_of_report report segment bench

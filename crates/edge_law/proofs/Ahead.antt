@@ -1,12 +1,11 @@
 -- Where the copy of a clock is when its unit is armed, and at the end of the run: behind what is due, and not too far; and past the last edge.
-use Rattle.std.proofs.Common.{◌≡◌, ℕ, ◌+◌, ◌-◌, ◌*◌, ◌<◌, ◌≤◌, Bool, true, false, List, length, Option, Some, None, Ok, refl, sym, ap, subst, ◌∙◌, arith, inl, inr}
+use Rattle.std.proofs.Common.{◌≡◌, ℕ, ◌+◌, ◌-◌, ◌*◌, ◌<◌, ◌≤◌, Bool, true, false, length, Option, Some, None, Ok, refl, ap, arith, inl, inr}
 use Rattle.std.specs.Prelude.{if◌then◌else◌, nat_eq, nat_le}
 use Rattle.std.proofs.Math.Nat.{add-mul, mul-le-mul_right}
 use Rattle.std.proofs.lemmas.Bool.{cases_lt}
 use Rattle.std.proofs.lemmas.Bool.Decides.{nat_tests}
 use Rattle.std.proofs.lemmas.List.{length-map}
 use Rattle.cable_tree.specs.PathSums.{arrive, round_trip}
-use Rattle.cable_tree.specs.Row.{Row}
 use Rattle.cable_tree.proofs.Exported.{inside}
 use Rattle.copy_law.specs.Drawn.{arrives_at}
 use Rattle.copy_law.specs.History.{history_from}
@@ -18,7 +17,7 @@ use Rattle.dc_bounds.specs.CopyBound.{copy_bound}
 use Rattle.dc_bounds.specs.LockNumbers.{period_fs}
 use Rattle.dc_bounds.specs.RunNumbers.{lead_ns, run_frames, run_time_ns}
 use Rattle.dc_bounds.specs.TickBounds.{tick_gap}
-use Rattle.dc_bounds.specs.TickFacts.{AreTicksOf, IsNear, IsWithin}
+use Rattle.dc_bounds.specs.TickFacts.{IsNear, IsWithin}
 use Rattle.dc_bounds.proofs.Exported.{ahead, long_enough, quarter, weight_few}
 use Rattle.delay_law.specs.Resting.{row_there}
 use Rattle.delay_law.proofs.Exported.{keeps_there}
@@ -36,7 +35,7 @@ use Rattle.run_of_file.specs.Commissioned.{IsCommissioned, words_after}
 use Rattle.run_of_file.specs.MasterOfFile.{master_of}
 use Rattle.run_of_file.specs.RunOfFile.{RunEnd, frames_given, ran, settled}
 use Rattle.segment_bounds.specs.Bounds.{copy_bound_at, delay_bound_at, reference_row_of, weight_at, wire_delay_at}
-use Rattle.segment_file.specs.Faults.{Fault, ahead_ns, fault_if, first_of, lead as lead_fault, no_lock, step_of, time_fault, too_slow}
+use Rattle.segment_file.specs.Faults.{Fault, ahead_ns, fault_if, first_of, lead as lead_fault, time_fault}
 use Rattle.segment_file.specs.Legal.{IsLegal}
 use Rattle.segment_file.specs.Segment.{SegmentValue, clock_at, clocks, counts_of, measures_at, oscillator, row_at, tree_row, tree_rows}
 use Rattle.segment_file.proofs.Exported.{counted, faultless, legal_round_trip, row_within}

@@ -1,9 +1,9 @@
 -- Two edges of one index on two slaves are no further apart than their window.
-use Rattle.std.proofs.Common.{◌≡◌, ℕ, ◌+◌, ◌-◌, ◌*◌, ◌/◌, ◌<◌, ◌≤◌, true, List, length, Some, Ok, inl, inr, refl, sym, ap, ap₂, subst, ◌∙◌, arith}
+use Rattle.std.proofs.Common.{◌≡◌, ℕ, ◌+◌, ◌-◌, ◌*◌, ◌/◌, ◌<◌, ◌≤◌, true, List, length, Some, Ok, inl, inr, sym, ap, ap₂, subst, ◌∙◌, arith}
 use Rattle.std.specs.Prelude.{slice_get}
 use Rattle.std.proofs.Math.Nat.{add-mul, mul-le-mul_right}
 use Rattle.std.proofs.lemmas.Bool.{cases_lt}
-use Rattle.cable_tree.specs.PathSums.{arrive, round_trip}
+use Rattle.cable_tree.specs.PathSums.{round_trip}
 use Rattle.cable_tree.specs.Positions.{position_of}
 use Rattle.copy_law.specs.Drawn.{arrives_at}
 use Rattle.copy_law.specs.History.{history_from}
@@ -19,7 +19,6 @@ use Rattle.dc_bounds.proofs.Exported.{edges_near}
 use Rattle.delay_law.specs.Resting.{row_there}
 use Rattle.delay_law.proofs.Exported.{keeps_there}
 use Rattle.ecat_link.specs.Exchanges.{Exchange}
-use Rattle.edge_law.specs.RunEdges.{IsRaised}
 use Rattle.edge_law.proofs.Ahead.{arrives_inside, clock_measures}
 use Rattle.edge_law.proofs.EndOfRun.{IsEdgeOf, IsWholeRun, edge_of_run, is_low, parts}
 use Rattle.edge_law.proofs.SettledAt.{settle_frames_are}
@@ -27,20 +26,20 @@ use Rattle.edge_report.specs.Edges.{HasSignal, shift_of}
 use Rattle.esc_regs.specs.Kinds.{has_clock}
 use Rattle.frame_pass.specs.SlaveState.{Slave, Timing}
 use Rattle.honest_slaves.specs.FileSlaves.{kind_at}
-use Rattle.master_script.specs.Words.{Words, start_at}
+use Rattle.master_script.specs.Words.{Words}
 use Rattle.osc_clock.specs.Ticks.{IsRunning, Oscillator, ticks}
 use Rattle.osc_clock.proofs.Exported.{ticks_rise}
 use Rattle.run_counts.specs.Transmissions.{settling_sends}
 use Rattle.run_counts.proofs.Exported.{honest_replies, settled_sends}
 use Rattle.run_of_file.specs.Commissioned.{IsCommissioned, words_after}
 use Rattle.run_of_file.specs.MasterOfFile.{master_of}
-use Rattle.run_of_file.specs.RunOfFile.{RunEnd, ran, run_of, settled}
+use Rattle.run_of_file.specs.RunOfFile.{RunEnd, run_of, settled}
 use Rattle.segment_bounds.specs.Bounds.{copy_bound_at}
 use Rattle.segment_bounds.specs.Window.{apart}
 use Rattle.segment_file.specs.Segment.{SegmentValue, oscillator, row_at, tree_rows}
 use Rattle.segment_file.proofs.Exported.{legal_reference, legal_round_trip}
 use Rattle.segment_start.specs.Start.{started_segment}
-use Rattle.sync_units.specs.Edges.{edge_of, edges_of}
+use Rattle.sync_units.specs.Edges.{edges_of}
 use Rattle.sync_units.specs.declared.edge.Edge.{Edge}
 use Rattle.sync_units.specs.declared.edge.Signal.{Signal}
 

@@ -1,7 +1,6 @@
 -- The edges of a run: each is kept, and was raised where the copy of its clock had come to what was due.
-use Rattle.std.proofs.Common.{◌≡◌, ℕ, zero, suc, ◌+◌, ◌-◌, ◌*◌, ◌%◌, ◌^◌, ◌<◌, ◌≤◌, Bool, true, List, [], ◌∷◌, length, Option, Some, None, Ok, refl, sym, ap, ap₂, subst, ◌∙◌, arith, inl, inr}
-use Rattle.std.specs.Prelude.{IfSome, IsSome, if◌then◌else◌, nat_le, option_map, slice_get, take, unwrap_or}
-use Rattle.std.proofs.lemmas.Bool.Decides.{nat_tests}
+use Rattle.std.proofs.Common.{◌≡◌, ℕ, zero, suc, ◌+◌, ◌*◌, ◌%◌, ◌^◌, ◌<◌, ◌≤◌, true, List, [], ◌∷◌, length, Option, Some, None, Ok, refl, ap, subst, ◌∙◌, arith}
+use Rattle.std.specs.Prelude.{IfSome, IsSome, slice_get, take, unwrap_or}
 use Rattle.std.proofs.lemmas.List.Elements.{All-get_or}
 use Rattle.std.proofs.Math.Nat.{mod-lt, mul-le-mul_right}
 use Rattle.std.proofs.lemmas.Nat.{pow_pos}
@@ -12,14 +11,14 @@ use Rattle.copy_law.specs.SinceLatch.{latch_arrival}
 use Rattle.copy_law.specs.WholeTimes.{reference_time, whole_copy}
 use Rattle.copy_law.proofs.Exported.{latched_within}
 use Rattle.dc_bounds.specs.LockNumbers.{period_fs}
-use Rattle.dc_bounds.specs.RunNumbers.{lead_ns, run_time_ns, start_ns}
+use Rattle.dc_bounds.specs.RunNumbers.{lead_ns}
 use Rattle.dc_bounds.proofs.Exported.{last_edge, not_far, start_after}
 use Rattle.delay_law.specs.Resting.{row_there}
 use Rattle.edge_law.specs.ArmedUnits.{IsArmedSince, unit_of}
-use Rattle.edge_law.specs.RunEdges.{IsRaised, due_at}
+use Rattle.edge_law.specs.RunEdges.{IsRaised}
 use Rattle.edge_law.specs.ToldStart.{KnowsTime, start_from}
 use Rattle.edge_law.proofs.Ahead.{armed_ahead, armed_late, ended, quarter_there, starts_soon}
-use Rattle.edge_law.proofs.Raised.{at, copy_is, in_order, rising_all, runs, ticks_then, time, time_after, time_by, whole, words_of}
+use Rattle.edge_law.proofs.Raised.{in_order, rising_all, runs, ticks_then, time, time_after, time_by, whole, words_of}
 use Rattle.ecat_link.specs.Exchanges.{Exchange}
 use Rattle.edge_report.specs.Edges.{HasSignal, shift_of}
 use Rattle.esc_regs.specs.Kinds.{has_clock}
@@ -27,9 +26,8 @@ use Rattle.esc_regs.specs.declared.clock_kind.ClockKind.{ClockKind}
 use Rattle.esc_regs.specs.declared.clock_kind.ClockKind.TheVariants as kind
 use Rattle.frame_pass.specs.SlaveState.{Slave, Timing, width}
 use Rattle.frame_pass.specs.UnitHistory.{IsRun}
-use Rattle.frame_pass.specs.Copies.{HasCopies}
 use Rattle.honest_slaves.specs.FileSlaves.{kind_at}
-use Rattle.local_clock.specs.Reading.{Clock, Happening}
+use Rattle.local_clock.specs.Reading.{Happening}
 use Rattle.local_clock.proofs.Exported.{rises}
 use Rattle.master_script.specs.Words.{Words}
 use Rattle.osc_clock.specs.Ticks.{Oscillator, instant, ticks}
@@ -37,7 +35,7 @@ use Rattle.osc_clock.proofs.Exported.{ticks_rise}
 use Rattle.run_of_file.specs.Commissioned.{IsCommissioned, words_after}
 use Rattle.run_of_file.specs.MasterOfFile.{master_of}
 use Rattle.run_of_file.specs.RunOfFile.{RunEnd, frames_given, ran, run_of, settled}
-use Rattle.segment_file.specs.Legal.{IsClock, IsLegal}
+use Rattle.segment_file.specs.Legal.{IsClock}
 use Rattle.segment_file.specs.Segment.{RowValue, SegmentValue, clocks, no_row, oscillator, row_at}
 use Rattle.segment_file.proofs.Exported.{row_within}
 use Rattle.segment_bounds.specs.Bounds.{copy_bound_at}

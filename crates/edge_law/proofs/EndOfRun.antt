@@ -1,50 +1,38 @@
 -- The edges of a whole run, and how far apart those of one index are.
-use Rattle.std.proofs.Common.{◌≡◌, ◌≢◌, ◌⊎◌, ℕ, ◌+◌, ◌-◌, ◌*◌, ◌<◌, ◌≤◌, Bool, true, false, List, [], ◌++◌, length, length-append, Option, Some, None, Ok, inl, inr, refl, sym, ap, subst, ◌∙◌, arith}
-use Rattle.std.specs.Prelude.{IfSome, if◌then◌else◌, nat_le, option_map, slice_get}
-use Rattle.std.proofs.Math.Nat.{add-mul, mul-le-mul_right}
-use Rattle.std.proofs.lemmas.Bool.{cases_lt}
+use Rattle.std.proofs.Common.{◌≡◌, ℕ, ◌+◌, ◌*◌, ◌<◌, ◌≤◌, Bool, true, false, List, length, length-append, Option, Some, Ok, refl, sym, ap, subst, ◌∙◌, arith}
+use Rattle.std.specs.Prelude.{IfSome, nat_le, option_map, slice_get}
 use Rattle.std.proofs.lemmas.Bool.Decides.{nat_tests}
 use Rattle.cable_tree.specs.Positions.{position_of}
 use Rattle.copy_law.specs.Drawn.{arrives_at}
 use Rattle.copy_law.specs.History.{history_from}
-use Rattle.copy_law.specs.Receipts.{IsReference}
-use Rattle.copy_law.specs.SinceLatch.{latch_arrival}
-use Rattle.copy_law.specs.WholeTimes.{reference_time, whole_copy}
-use Rattle.copy_law.proofs.Exported.{latched_within, reference_clock, reference_low, stands_behind, the_reference, ticks_over, whole_copies_near}
-use Rattle.dc_bounds.specs.CopyBound.{window}
+use Rattle.copy_law.proofs.Exported.{stands_behind, the_reference}
 use Rattle.dc_bounds.specs.LockNumbers.{period_fs}
-use Rattle.dc_bounds.specs.TickFacts.{IsNear, IsWithin}
-use Rattle.dc_bounds.proofs.Exported.{edges_near}
 use Rattle.delay_law.specs.Resting.{row_there}
-use Rattle.delay_law.proofs.Exported.{has_there, keeps_there}
+use Rattle.delay_law.proofs.Exported.{has_there}
 use Rattle.ecat_link.specs.Exchanges.{Exchange}
 use Rattle.edge_law.specs.ArmedUnits.{IsArmedSince}
 use Rattle.edge_law.specs.RunEdges.{IsRaised}
-use Rattle.edge_law.specs.ToldStart.{KnowsTime, start_from}
 use Rattle.edge_law.proofs.Ahead.{clock_measures}
 use Rattle.edge_law.proofs.ArmedRuns.{armed_parts, finished_many, ran_parts, whole_armed, whole_parts}
 use Rattle.edge_law.proofs.Edges.{edge_raised}
 use Rattle.edge_law.proofs.Raised.{whole_behind}
 use Rattle.edge_law.proofs.ToldStart.{knows_time, start_told}
-use Rattle.edge_report.specs.Edges.{HasSignal, shift_of}
+use Rattle.edge_report.specs.Edges.{HasSignal}
 use Rattle.esc_regs.specs.Kinds.{has_clock}
 use Rattle.frame_pass.specs.Advancing.{advanced_to, measuring_at, ticked_to}
-use Rattle.frame_pass.specs.SegmentState.{SegmentState, finished, leaves_at}
+use Rattle.frame_pass.specs.SegmentState.{finished, leaves_at}
 use Rattle.frame_pass.specs.SlaveState.{Measuring, Slave, Timing, on_measuring_of}
 use Rattle.frame_pass.proofs.Exported.{finished_at, sound_at}
 use Rattle.honest_slaves.specs.FileSlaves.{kind_at}
 use Rattle.honest_slaves.proofs.Exported.{had_before, low_where}
-use Rattle.master_script.specs.Words.{Words, start_at}
-use Rattle.osc_clock.specs.Ticks.{IsRunning, Oscillator, ticks}
-use Rattle.osc_clock.proofs.Exported.{ticks_rise}
+use Rattle.master_script.specs.Words.{start_at}
 use Rattle.run_counts.specs.Transmissions.{settling_sends}
 use Rattle.run_counts.proofs.Exported.{armed_sends, clocks_counted, honest_replies, ran_drifted, ran_sends}
 use Rattle.run_of_file.specs.Commissioned.{IsCommissioned, words_after}
 use Rattle.run_of_file.specs.MasterOfFile.{master_of}
-use Rattle.run_of_file.specs.RunOfFile.{RunEnd, armed, end_of_run, frames_given, ran, run_of, settled}
-use Rattle.segment_file.specs.Legal.{IsLegal}
-use Rattle.segment_file.specs.Segment.{SegmentValue, clocks, oscillator, row_at, tree_rows}
-use Rattle.segment_file.proofs.Exported.{legal_reference, legal_round_trip}
+use Rattle.run_of_file.specs.RunOfFile.{RunEnd, end_of_run, frames_given, ran, run_of, settled}
+use Rattle.segment_file.specs.Segment.{SegmentValue, clocks, tree_rows}
+use Rattle.segment_file.proofs.Exported.{legal_reference}
 use Rattle.segment_start.specs.Start.{started_segment}
 use Rattle.sync_units.specs.declared.edge.Signal.{Signal}
 
@@ -69,6 +57,29 @@ goes_on t u v n m has early same reads =
     let there : v.timing ≡ Some (measuring_at t (record { registers = u.registers; timing = n })).timing =
     ap (λ (x : Slave). x.timing) (sym same) ∙ ap (λ (o : Option Timing). (on_measuring_of (measuring_at t) u o).timing) has in
     ap (λ (x : Timing). x.clock.instant) (some_same (sym reads ∙ there)) ∙ stands_there t (record { registers = u.registers; timing = n }) early
+
+-- and goes on counting
+advanced_counts : (t : ℕ) (u v : Slave) (n : Timing) → u.timing ≡ Some n → advanced_to t u ≡ v → (m : Timing) × (v.timing ≡ Some m)
+unfolding advanced_to
+advanced_counts t u v n has same = (
+  (measuring_at t (record { registers = u.registers; timing = n })).timing,
+  ap (λ (x : Slave). x.timing) (sym same) ∙ ap (λ (o : Option Timing). (on_measuring_of (measuring_at t) u o).timing) has,
+)
+
+-- the clock of a slave at the end of a whole run
+pub timing_there : (s : SegmentValue) (first run : RunEnd) (it : IsCommissioned s first) → run_of s ≡ Some run → run.answer ≡ Ok tt → (p : ℕ) → has_clock (kind_at s p) ≡ true → (v : Slave)
+    → slice_get run.state.slaves p ≡ Some v → (m : Timing) × (v.timing ≡ Some m)
+timing_there s first run it run_is ok p is v there =
+    let l = whole_parts s run run_is ok in
+    let d = ran_drifted s it.legal first l.0 it.is l.1 in
+    let stands = stands_behind s it.legal (length d.more) l.0.state (whole_behind s first l.0 it l.1) in
+    let t = end_of_run s l.0.state in
+    let many = finished_many t l.0.state in
+    let whole = ap (λ (x : RunEnd). length x.state.slaves) l.3 in
+    let within = low_where run.state.slaves p v there in
+    let u = had_before l.0.state.slaves p (omega (arith, many, whole, within)) in
+    let n = has_there s it.legal p u.slave (stands.file.fixed p u.slave u.is) (clock_measures (kind_at s p) is) in
+    advanced_counts t u.slave v n.timing n.is (some_same (sym (finished_at l.0.state t p ∙ ap (option_map (advanced_to t)) u.is) ∙ ap (λ (x : RunEnd). slice_get x.state.slaves p) l.3 ∙ there))
 
 module _ (s : SegmentValue) (first last run : RunEnd) (it : IsCommissioned s first) (last_is : ran s ≡ Some last) (goes : record last { state = finished (end_of_run s last.state) last.state } ≡ run)
     (p : ℕ) (low : p < length s.rows) (is : has_clock (kind_at s p) ≡ true) (v : Slave) (there : slice_get run.state.slaves p ≡ Some v) (m : Timing) (has : v.timing ≡ Some m) where

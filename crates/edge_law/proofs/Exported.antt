@@ -6,3 +6,6 @@ pub use Rattle.edge_law.proofs.ArmingVisit.{RunsSince, later_visit, own_visit, q
 pub use Rattle.edge_law.proofs.ArmingStep.{HasParts, own_step, parts_there, quiet_step}
 -- The unit of each clock at the end of a run that was not refused.
 pub use Rattle.edge_law.proofs.ArmedRuns.{ran_armed, whole_armed}
+-- Where two edges of a run are, and that all lie within the window.
+pub use Rattle.edge_law.proofs.EndOfRun.{IsWholeRun, parts, IsEdgeOf, edge_of_run}
+pub use Rattle.edge_law.proofs.InWindow.{within_window}

@@ -13,4 +13,5 @@ mod Raised
 mod Edges
 mod EndOfRun
 mod Apart
+mod InWindow
 pub mod Exported

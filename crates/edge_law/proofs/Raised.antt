@@ -1,15 +1,11 @@
 -- When a unit of a run raises its edges: at the ticks at which the whole copy of its clock has come to what is due.
-use Rattle.std.proofs.Common.{◌≡◌, ℕ, zero, suc, ◌+◌, ◌-◌, ◌*◌, ◌%◌, ◌^◌, ◌<◌, ◌≤◌, true, List, [], ◌++◌, length, Option, Some, None, Ok, refl, sym, ap, ap₂, subst, ◌∙◌, arith, inl, inr}
-use Rattle.std.specs.Prelude.{IfSome, get_or, option_map, slice_get, take}
+use Rattle.std.proofs.Common.{◌≡◌, ℕ, zero, suc, ◌+◌, ◌-◌, ◌*◌, ◌%◌, ◌^◌, ◌<◌, ◌≤◌, true, List, [], ◌++◌, length, Option, Some, refl, sym, ap, subst, ◌∙◌, arith, inl, inr}
+use Rattle.std.specs.Prelude.{slice_get}
 use Rattle.std.specs.Option.{option_map_or}
 use Rattle.std.proofs.lemmas.Bool.{cases_lt}
-use Rattle.std.proofs.Math.Nat.{mod-lt}
 use Rattle.std.proofs.lemmas.List.{append-nil}
-use Rattle.std.proofs.lemmas.Nat.{pow_pos}
-use Rattle.cable_tree.specs.PathSums.{arrive}
-use Rattle.copy_law.specs.Drawn.{arrives_at}
 use Rattle.copy_law.specs.Drifting.{IsBehind}
-use Rattle.copy_law.specs.History.{clock_of, copy_of_run, history_from, offset_of}
+use Rattle.copy_law.specs.History.{clock_of, history_from, offset_of}
 use Rattle.copy_law.specs.SinceLatch.{latch_arrival}
 use Rattle.copy_law.specs.WholeTimes.{whole_copy}
 use Rattle.copy_law.proofs.BehindLatch.{ran_set, whole_set}
@@ -20,26 +16,21 @@ use Rattle.run_counts.proofs.Exported.{ran_drifted}
 use Rattle.run_of_file.proofs.Exported.{kept_by_runs, ran_exchanges}
 use Rattle.segment_file.specs.Legal.{IsLegal}
 use Rattle.delay_law.specs.Resting.{row_there}
-use Rattle.edge_law.specs.ArmedUnits.{IsArmedSince, unit_of}
-use Rattle.edge_law.specs.RunEdges.{due_at}
 use Rattle.esc_regs.specs.Kinds.{has_clock}
 use Rattle.frame_pass.specs.Copies.{HasCopies, copy_at}
-use Rattle.frame_pass.specs.SlaveState.{Slave, Timing, offset, width}
-use Rattle.frame_pass.specs.UnitHistory.{IsRun}
+use Rattle.frame_pass.specs.SlaveState.{Slave, offset, width}
 use Rattle.honest_slaves.specs.FileSlaves.{kind_at}
-use Rattle.honest_slaves.proofs.Exported.{had_before, low_where, row_has}
-use Rattle.local_clock.specs.LocalTime.{local_time}
+use Rattle.honest_slaves.proofs.Exported.{had_before, row_has}
 use Rattle.local_clock.specs.Reading.{AreInOrder, Clock, Happening}
 use Rattle.local_clock.proofs.Exported.{rises}
-use Rattle.master_script.specs.Words.{Words, delay_at, offset_at}
+use Rattle.master_script.specs.Words.{Words}
 use Rattle.osc_clock.specs.Ticks.{IsRunning, Oscillator, instant, ticks}
-use Rattle.osc_clock.proofs.Exported.{not_after, reached, ticks_at, ticks_rise}
+use Rattle.osc_clock.proofs.Exported.{not_after, ticks_at, ticks_rise}
 use Rattle.run_of_file.specs.Commissioned.{IsCommissioned, words_after}
-use Rattle.run_of_file.specs.MasterOfFile.{master_of}
 use Rattle.run_of_file.specs.RunOfFile.{RunEnd, ran, run_of}
 use Rattle.segment_file.specs.Segment.{SegmentValue, clock_at, oscillator, row_at}
 use Rattle.segment_start.specs.Start.{started_segment}
-use Rattle.sync_units.specs.Calls.{Call, copy_in, end_of, ticks_of_calls}
+use Rattle.sync_units.specs.Calls.{Call, copy_in, ticks_of_calls}
 use Rattle.sync_units.specs.Rising.{AreRising, AreWordsOf}
 
 some_same : {X : Type 0} {x y : X} → Some x ≡ Some y → x ≡ y

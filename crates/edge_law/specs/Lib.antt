@@ -1,3 +1,4 @@
 pub mod ArmedUnits
 pub mod ToldStart
 pub mod RunEdges
+pub mod InWindow

@@ -1,21 +1,16 @@
-//! The start of the units, and what arming leaves of them.
+//! The start of the units, what arming leaves in them, and the edges that they raise.
 
 ghost use Rattle.std.specs.Prelude.{◌≡◌, ℕ, ◌+◌, ◌*◌, ◌<◌, true, length, Some, Ok, slice_get};
 ghost use Rattle.copy_law.specs.Drawn.{arrives_at};
 ghost use Rattle.copy_law.specs.History.{history_from};
 ghost use Rattle.copy_law.specs.Receipts.{IsReference};
 ghost use Rattle.copy_law.specs.WholeTimes.{reference_time};
-ghost use Rattle.dc_bounds.specs.CopyBound.{window};
 ghost use Rattle.dc_bounds.specs.LockNumbers.{period_fs};
-ghost use Rattle.dc_bounds.specs.TickFacts.{IsNear};
 ghost use Rattle.delay_law.specs.Resting.{row_there};
+ghost use Rattle.edge_law.specs.InWindow.{AreEdgesWithin};
 ghost use Rattle.edge_law.specs.RunEdges.{IsRaised};
-ghost use Rattle.edge_report.specs.Edges.{HasSignal, shift_of};
+ghost use Rattle.edge_report.specs.Edges.{HasSignal};
 ghost use Rattle.run_counts.specs.Transmissions.{settling_sends};
-ghost use Rattle.segment_bounds.specs.Bounds.{copy_bound_at};
-ghost use Rattle.segment_bounds.specs.Window.{apart};
-ghost use Rattle.sync_units.specs.Edges.{edges_of};
-ghost use Rattle.sync_units.specs.declared.edge.Edge.{Edge};
 ghost use Rattle.sync_units.specs.declared.edge.Signal.{Signal};
 ghost use Rattle.edge_law.specs.ArmedUnits.{IsArmedSince};
 ghost use Rattle.edge_law.specs.ToldStart.{KnowsTime, start_from};
@@ -26,7 +21,8 @@ ghost use Rattle.master_script.specs.Words.{start_at};
 ghost use Rattle.run_of_file.specs.Commissioned.{IsCommissioned, words_after};
 ghost use Rattle.run_of_file.specs.MasterOfFile.{master_of};
 ghost use Rattle.run_of_file.specs.RunOfFile.{RunEnd, ran, run_of, settled};
-ghost use Rattle.segment_file.specs.Segment.{SegmentValue, row_at};
+ghost use Rattle.segment_file.specs.Legal.{IsLegal};
+ghost use Rattle.segment_file.specs.Segment.{SegmentValue};
 ghost use Rattle.segment_start.specs.Start.{started_segment};
 
 /// The time that the master knows after settling is whole: it is what the reference has counted, from the epoch on, until the last settle
@@ -69,15 +65,9 @@ pub fn edges_are_raised()
         ((length run.exchanges + 1) * period_fs s.head.frame_ns) u (history_from (started_segment s) run.exchanges p) m.edges.edges }
 {}
 
-/// The edges of one index of two signals are as far apart as their shifts say, but for at most the window W of these signals.
+/// Where a run is not refused, each signal of the file has an edge of each index below `cycles`, and the edges of one index of two signals
+/// are as far apart as their shifts say, but for at most the window W of these signals.
 pub fn edges_are_in_the_window()
-    ensures { (s : SegmentValue) (first before run : RunEnd) (p q k : ℕ) (v w : Slave) (m n : Timing) (signal other : Signal) (e f : Edge)
-        → IsCommissioned s first → settled s ≡ Some before → run_of s ≡ Some run → run.answer ≡ Ok tt
-        → slice_get run.state.slaves p ≡ Some v → slice_get run.state.slaves q ≡ Some w → v.timing ≡ Some m → w.timing ≡ Some n
-        → has_clock (kind_at s p) ≡ true → has_clock (kind_at s q) ≡ true
-        → HasSignal (row_there s p) signal → HasSignal (row_there s q) other → k < s.head.cycles
-        → slice_get (edges_of signal m.edges.edges) k ≡ Some e → slice_get (edges_of other n.edges.edges) k ≡ Some f
-        → IsNear (f.time_fs + 1000000 * shift_of (row_there s p) signal) (e.time_fs + 1000000 * shift_of (row_there s q) other)
-        (window s.head.ppm (apart (shift_of (row_there s p) signal) (shift_of (row_there s q) other)) (copy_bound_at s (row_at s p))
-        (copy_bound_at s (row_at s q))) }
+    ensures { (s : SegmentValue) (run : RunEnd) → IsLegal s → run_of s ≡ Some run → run.answer ≡ Ok tt
+        → AreEdgesWithin s run.state.slaves }
 {}
