@@ -14,7 +14,10 @@
 //! SYNC1 time of the file, and no edge kept. From its arrival on, the unit and the kept edges are those of the unit's
 //! calls, and the copies at their ticks are those of the clock's history ([`laws::units_are_armed`]).
 //!
-//! When these edges are is not proved yet; these laws are what a proof of it begins with.
+//! **When the edges are.** Each signal raises an edge of each index below `cycles`, after the last arming and before the
+//! run ends, at a tick at which the copy of its clock, as a whole number, has come to what is due
+//! ([`laws::edges_are_raised`]). As the copies of the clocks are near that of the reference, two edges of one index are as
+//! far apart as their shifts say, but for at most the window W of their signals ([`laws::edges_are_in_the_window`]).
 #![tactic(auto)]
 
 pub mod laws;
